@@ -1,0 +1,11 @@
+//! The ends of the program and the words of a refusal.
+//!
+//! A `Source` gives bytes and a `Sink` takes them. Each counts its faults, so that a failure is known to
+//! be the end's own. There are ends over memory, for tests, and over the standard streams.
+#![tactic(auto)]
+
+mod refusal;
+mod rule;
+
+pub use refusal::{ReadFault, Refusal};
+pub use rule::Rule;
