@@ -1,0 +1,11 @@
+-- Units as a byte stream (Annex B, B.2.2): before each one a zero_byte and a start code prefix.
+use Rattle.std.specs.Prelude.{ℕ, List, [], ◌∷◌, ◌++◌}
+
+-- what stands before a unit: zero_byte and start_code_prefix_one_3bytes, 00 00 00 01
+abbrev pub long_code : List ℕ
+long_code = 0 ∷ 0 ∷ 0 ∷ 1 ∷ []
+
+-- the byte stream of units that are given by their bytes
+unfoldable pub frame : List (List ℕ) → List ℕ
+frame [] = []
+frame (u ∷ us) = long_code ++ u ++ frame us
