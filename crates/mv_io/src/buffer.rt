@@ -2,7 +2,7 @@ ghost use Rattle.std.specs.Prelude.{◌≡◌, ◌≤◌, ◌-◌, [], ◌++◌,
 
 use std::marker::Model;
 
-/// How many bytes the buffer holds.
+// How many bytes a buffer holds.
 pub const BUFFER_LEN: usize = 65536;
 
 // Bytes that wait for the standard output, which are `bytes[start..end]`. The buffer is a part of the end
@@ -52,8 +52,9 @@ impl Buffer {
     pub fn push(&mut self, piece: &[u8])
         requires { length piece.now ≤ self.old.room }
         ensures pushed { self.new ≡ record {
-            waiting = self.old.waiting ++ piece.now;
-            room = self.old.room - length piece.now } }
+          waiting = self.old.waiting ++ piece.now;
+          room = self.old.room - length piece.now;
+        } }
     {
         let end = self.end + piece.len();
         self.bytes[self.end..end].copy_from_slice(piece);
