@@ -1,0 +1,225 @@
+-- The laws of tables, each once for every table: the reader on lists answers a value exactly where it reads, and a rule
+-- exactly where it cuts.
+use Rattle.std.proofs.Common.{◌≡◌, ℕ, zero, suc, ◌+◌, ◌-◌, ◌^◌, ◌<◌, Bool, true, false, List, [], ◌∷◌, ◌++◌, length, ℤ, Option, Some, None, Result, Ok, Err, ◌⊎◌, if◌then◌else◌, refl, sym, ap, ◌∙◌, subst, inl, inr, append_assoc, append-nil, arith, length-append}
+use Rattle.mv_syntax.specs.Bits.{Fault, short, breaks, kept, u_bits, take_bits, ue_bits, take_ue, se_code, se_bits, take_se}
+use Rattle.mv_syntax.specs.Bits as bits
+use Rattle.mv_syntax.specs.Table.{Table, u, ue, se, named, refused, checked, ◌>>=◌, when, repeat, by_rule, padded, shaped, in_turn, EachValid, bits_of, Valid, Reads, EachCut, Cut, counted_as, read_each, behind, read, put_each, put}
+use Rattle.mv_syntax.proofs.BitLaws.{take_bits-u_bits, take_bits-printed, take_bits-failed, take_ue-ue_bits, take_ue-printed, take_ue-failed, take_se-se_bits, take_se-printed, take_se-failed}
+
+-- ---- the parts of an answer
+pub ok_value : {A B : Type 0} (x y : A) → Path (Result A B) (Ok x) (Ok y) → x ≡ y
+ok_value x y e = cc
+
+-- bits that stand there are found, and what is found stood there
+pub behind-there : (xs rest : List Bool) → behind xs (xs ++ rest) ≡ Ok rest
+behind-there [] rest = refl
+behind-there (true ∷ xs) rest = behind-there xs rest
+behind-there (false ∷ xs) rest = behind-there xs rest
+
+pub behind-found : (xs b rest : List Bool) → behind xs b ≡ Ok rest → b ≡ xs ++ rest
+behind-found [] b rest e = cc
+behind-found (x ∷ xs) [] rest e = cc
+behind-found (true ∷ xs) (true ∷ b) rest e = ap (λ c. true ∷ c) (behind-found xs b rest e)
+behind-found (true ∷ xs) (false ∷ b) rest e = cc
+behind-found (false ∷ xs) (true ∷ b) rest e = cc
+behind-found (false ∷ xs) (false ∷ b) rest e = ap (λ c. false ∷ c) (behind-found xs b rest e)
+
+pub behind-failed : (xs b : List Bool) (fault : Fault) → behind xs b ≡ Err fault → fault ≡ short
+behind-failed [] b fault e = cc
+behind-failed (x ∷ xs) [] fault e = cc
+behind-failed (true ∷ xs) (true ∷ b) fault e = behind-failed xs b fault e
+behind-failed (true ∷ xs) (false ∷ b) fault e = cc
+behind-failed (false ∷ xs) (true ∷ b) fault e = cc
+behind-failed (false ∷ xs) (false ∷ b) fault e = behind-failed xs b fault e
+
+-- what a reading in two steps answered
+pub bind-ok : {A B : Type 0} (x : Result A Fault) (f : A → Result B Fault) (y : B) → bits.◌>>=◌ x f ≡ Ok y → (a : A) × (x ≡ Ok a) × (f a ≡ Ok y)
+bind-ok (Ok a) f y e = (a, refl, e)
+bind-ok (Err fault) f y e = cc
+
+pub bind-err : {A B : Type 0} (x : Result A Fault) (f : A → Result B Fault) (fault : Fault) → bits.◌>>=◌ x f ≡ Err fault → (x ≡ Err fault) ⊎ ((a : A) × (x ≡ Ok a) × (f a ≡ Err fault))
+bind-err (Ok a) f fault e = inr (a, refl, e)
+bind-err (Err other) f fault e = inl cc
+
+pub kept-ok : {A B : Type 0} (f : A → B) (x : Result (A × List Bool) Fault) (w : B) (rest : List Bool) → kept f x ≡ Ok (w, rest) → (v : A) × (x ≡ Ok (v, rest)) × (f v ≡ w)
+kept-ok f (Ok x) w rest e =
+    let h : (f x.0, x.1) ≡ (w, rest) = ok_value _ _ e in
+    (x.0, ap (λ r. Ok (x.0, r)) (ap (λ p. p.1) h), ap (λ p. p.0) h)
+kept-ok f (Err fault) w rest e = cc
+
+pub kept-err : {A B : Type 0} (f : A → B) (x : Result (A × List Bool) Fault) (fault : Fault) → kept f x ≡ Err fault → x ≡ Err fault
+kept-err f (Ok x) fault e = cc
+kept-err f (Err other) fault e = cc
+
+pub refused-ok : {A : Type 0} (c : Bool) (fault : Fault) (x y : A) → Path (Result A Fault) (if c then Err fault else Ok x) (Ok y) → (c ≡ false) × (x ≡ y)
+refused-ok true fault x y e = cc
+refused-ok false fault x y e = (refl, ok_value x y e)
+
+pub refused-err : {A : Type 0} (c : Bool) (fault other : Fault) (x : A) → Path (Result A Fault) (if c then Err fault else Ok x) (Err other) → (c ≡ true) × (fault ≡ other)
+refused-err true fault other x e = (refl, cc)
+refused-err false fault other x e = cc
+
+pub counted-ok : {A : Type 0} (r : ℕ) (x : Result A Fault) (y : A) → counted_as r x ≡ Ok y → x ≡ Ok y
+counted-ok r (Ok x) y e = e
+counted-ok r (Err short) y e = cc
+counted-ok r (Err (breaks s)) y e = cc
+
+pub counted-err : {A : Type 0} (r : ℕ) (x : Result A Fault) (s : ℕ) → counted_as r x ≡ Err (breaks s) → (s ≡ r) × ((q : ℕ) × (x ≡ Err (breaks q)))
+counted-err r (Ok x) s e = cc
+counted-err r (Err short) s e = cc
+counted-err r (Err (breaks q)) s e = (cc, (q, refl))
+
+-- ---- what was printed reads back before any rest
+-- a loop reads back, given that its body does
+pub each-ok :
+    {A : Type 0} (one : List A → List Bool → Result (A × List Bool) Fault) (print : List A → A → List Bool) (valid : List A → A → Type 0)
+    → ((before : List A) (v : A) (rest : List Bool) → valid before v → one before (print before v ++ rest) ≡ Ok (v, rest))
+    → (n : ℕ) (before vs : List A) (rest : List Bool) → length vs ≡ n → EachValid valid before vs
+    → read_each one n before (in_turn print before vs ++ rest) ≡ Ok (before ++ vs, rest)
+each-ok one print valid ok zero before [] rest e h = rw (append-nil before) refl
+each-ok one print valid ok zero before (v ∷ vs) rest e h = cc
+each-ok one print valid ok (suc n) before [] rest e h = cc
+each-ok one print valid ok (suc n) before (v ∷ vs) rest e h =
+    let more : List Bool = in_turn print (before ++ v ∷ []) vs in
+    rw (append_assoc (print before v) more rest, ok before v (more ++ rest) h.0)
+      (each-ok one print valid ok n (before ++ v ∷ []) vs rest (omega arith) h.1 ∙ ap (λ l. Ok (l, rest)) (append_assoc before (v ∷ []) vs))
+
+pub read-ok : {A : Type 0} (t : Table A) (v : A) (rest : List Bool) → Valid t v → read t (bits_of t v ++ rest) ≡ Ok (v, rest)
+read-ok (u n) v rest h = take_bits-u_bits n v rest h
+read-ok ue v rest h = take_ue-ue_bits v rest h
+read-ok se v rest h = take_se-se_bits v rest h
+read-ok (named name t) v rest h = read-ok t v rest h
+read-ok (refused r bad t) v rest h = rw (read-ok t v rest h.0, h.1) refl
+read-ok (checked r bad t) v rest h = rw h.0 (read-ok t v rest h.1)
+read-ok (t >>= f) v rest h =
+    rw (append_assoc (bits_of t v.0) (bits_of (f v.0) v.1) rest, read-ok t v.0 (bits_of (f v.0) v.1 ++ rest) h.0, read-ok (f v.0) v.1 rest h.1) refl
+read-ok (when true t) (Some v) rest h = rw (read-ok t v rest h.1) refl
+read-ok (when false t) (Some v) rest h = cc
+read-ok (when true t) None rest h = cc
+read-ok (when false t) None rest h = refl
+read-ok (repeat index n t) vs rest h =
+    each-ok (λ before c. read (t before) c) (λ before v. bits_of (t before) v) (λ before v. Valid (t before) v)
+      (λ before v more valid. read-ok (t before) v more valid) n [] vs rest h.0 h.1
+read-ok (by_rule r t) v rest h = rw (read-ok t v rest h) refl
+read-ok (padded pad t) v rest h =
+    let own : List Bool = bits_of t v in
+    let pads : List Bool = pad v (length own) in
+    let count : length (own ++ (pads ++ rest)) - length (pads ++ rest) ≡ length own =
+      rw (length-append own (pads ++ rest)) (omega arith) in
+    rw (append_assoc own pads rest, read-ok t v (pads ++ rest) h, count, behind-there pads rest) refl
+read-ok (shaped to from same t) v rest h = rw (read-ok t (from v) rest h.0, h.1) refl
+
+-- ---- what reads was printed, and is valid
+-- all is `before` and n valid items more, and b is what is printed for these and the rest
+abbrev pub Found : {A : Type 0} → (List A → A → List Bool) → (List A → A → Type 0) → List A → List Bool → ℕ → List A → List Bool → Type 0
+Found {A} print valid all rest n before b =
+    (vs : List A) × (all ≡ before ++ vs) × (length vs ≡ n) × EachValid valid before vs × (b ≡ in_turn print before vs ++ rest)
+
+pub each-read :
+    {A : Type 0} (one : List A → List Bool → Result (A × List Bool) Fault) (print : List A → A → List Bool) (valid : List A → A → Type 0)
+    → ((before : List A) (b : List Bool) (v : A) (rest : List Bool) → one before b ≡ Ok (v, rest) → valid before v × (b ≡ print before v ++ rest))
+    → (n : ℕ) (before : List A) (b : List Bool) (all : List A) (rest : List Bool) → read_each one n before b ≡ Ok (all, rest)
+    → Found print valid all rest n before b
+each-read one print valid reads zero before b all rest e =
+    let h : (before, b) ≡ (all, rest) = ok_value _ _ e in
+    ([], sym (ap (λ p. p.0) h) ∙ sym (append-nil before), refl, tt, ap (λ p. p.1) h)
+each-read {A = A} one print valid reads (suc n) before b all rest e =
+    go (bind-ok (one before b) (λ x. read_each one n (before ++ x.0 ∷ []) x.1) (all, rest) e)
+      (λ x others. each-read one print valid reads n (before ++ x.0 ∷ []) x.1 all rest others)
+  where
+    go :
+      (x : A × List Bool) × (one before b ≡ Ok x) × (read_each one n (before ++ x.0 ∷ []) x.1 ≡ Ok (all, rest))
+      → ((x : A × List Bool) → read_each one n (before ++ x.0 ∷ []) x.1 ≡ Ok (all, rest) → Found print valid all rest n (before ++ x.0 ∷ []) x.1)
+      → Found print valid all rest (suc n) before b
+    go (x, first, others) later =
+      let (vs, whole, count, valids, bits) = later x others in
+      let one_read : valid before x.0 × (b ≡ print before x.0 ++ x.1) = reads before b x.0 x.1 first in
+      (x.0 ∷ vs, whole ∙ append_assoc before (x.0 ∷ []) vs, omega arith, (one_read.0, valids),
+       one_read.1 ∙ ap (λ c. print before x.0 ++ c) bits ∙ sym (append_assoc (print before x.0) (in_turn print (before ++ x.0 ∷ []) vs) rest))
+
+pub reads-read : {A : Type 0} (t : Table A) (b : List Bool) (v : A) (rest : List Bool) → read t b ≡ Ok (v, rest) → Valid t v × (b ≡ bits_of t v ++ rest)
+reads-read (u n) b v rest e = let h : (b ≡ u_bits n v ++ rest) × (v < 2 ^ n) = take_bits-printed n b v rest e in (h.1, h.0)
+reads-read ue b v rest e = let h : (b ≡ ue_bits v ++ rest) × (v < 2 ^ 32 - 1) = take_ue-printed b v rest e in (h.1, h.0)
+reads-read se b v rest e = let h : (b ≡ se_bits v ++ rest) × (se_code v < 2 ^ 32 - 1) = take_se-printed b v rest e in (h.1, h.0)
+reads-read (named name t) b v rest e = reads-read t b v rest e
+reads-read (refused {A = A} r bad t) b v rest e =
+    go (bind-ok (read t b) (λ x. if bad x.0 then Err (breaks r) else Ok x) (v, rest) e) (reads-read t b v rest)
+  where
+    go :
+      (x : A × List Bool) × (read t b ≡ Ok x) × (Path (Result (A × List Bool) Fault) (if bad x.0 then Err (breaks r) else Ok x) (Ok (v, rest)))
+      → (read t b ≡ Ok (v, rest) → Valid t v × (b ≡ bits_of t v ++ rest))
+      → (Valid t v × (bad v ≡ false)) × (b ≡ bits_of t v ++ rest)
+    go (x, first, second) later =
+      let (fine, same) = refused-ok (bad x.0) (breaks r) x (v, rest) second in
+      let h : Valid t v × (b ≡ bits_of t v ++ rest) = later (first ∙ ap (λ y. Ok y) same) in
+      ((h.0, sym (ap (λ y. bad y.0) same) ∙ fine), h.1)
+reads-read (checked r true t) b v rest e = cc
+reads-read (checked r false t) b v rest e = let h : Valid t v × (b ≡ bits_of t v ++ rest) = reads-read t b v rest e in ((refl, h.0), h.1)
+reads-read (◌>>=◌ {A = A} {B = B} t f) b v rest e =
+    go (bind-ok (read t b) (λ x. kept (λ y. (x.0, y)) (read (f x.0) x.1)) (v, rest) e) (reads-read t b)
+      (λ a c more after. reads-read (f a) c (v.1) more after)
+  where
+    go :
+      (x : A × List Bool) × (read t b ≡ Ok x) × (Path (Result ((A × B) × List Bool) Fault) (kept (λ y. (x.0, y)) (read (f x.0) x.1)) (Ok (v, rest)))
+      → ((a : A) (more : List Bool) → read t b ≡ Ok (a, more) → Valid t a × (b ≡ bits_of t a ++ more))
+      → ((a : A) (c : List Bool) (more : List Bool) → read (f a) c ≡ Ok (v.1, more) → Valid (f a) v.1 × (c ≡ bits_of (f a) v.1 ++ more))
+      → (Valid t v.0 × Valid (f v.0) v.1) × (b ≡ bits_of t v.0 ++ bits_of (f v.0) v.1 ++ rest)
+    go (x, first, second) one two =
+      let (w, after, same) = kept-ok (λ y. (x.0, y)) (read (f x.0) x.1) v rest second in
+      let left : x.0 ≡ v.0 = ap (λ p. p.0) same in
+      let right : w ≡ v.1 = ap (λ p. p.1) same in
+      let a : Valid t v.0 × (b ≡ bits_of t v.0 ++ x.1) = one v.0 x.1 (first ∙ ap (λ y. Ok (y, x.1)) left) in
+      let c : Valid (f v.0) v.1 × (x.1 ≡ bits_of (f v.0) v.1 ++ rest) =
+        two v.0 x.1 rest (sym (ap (λ y. read (f y) x.1) left) ∙ after ∙ ap (λ y. Ok (y, rest)) right) in
+      ((a.0, c.0), a.1 ∙ ap (λ y. bits_of t v.0 ++ y) c.1 ∙ sym (append_assoc (bits_of t v.0) (bits_of (f v.0) v.1) rest))
+reads-read (when {A = A} true t) b v rest e = go (kept-ok Some (read t b) v rest e) (reads-read t b)
+  where
+    go :
+      (w : A) × (read t b ≡ Ok (w, rest)) × (Some w ≡ v)
+      → ((a : A) (more : List Bool) → read t b ≡ Ok (a, more) → Valid t a × (b ≡ bits_of t a ++ more))
+      → Valid (when true t) v × (b ≡ bits_of (when true t) v ++ rest)
+    go (w, first, same) one =
+      let h : Valid t w × (b ≡ bits_of t w ++ rest) = one w rest first in
+      let P : Option A → Type 0 = λ o. Valid (when true t) o × (b ≡ bits_of (when true t) o ++ rest) in
+      subst P same ((refl, h.0), h.1)
+reads-read (when {A = A} false t) b v rest e =
+    let same : Path (Option A × List Bool) (None, b) (v, rest) = ok_value _ _ e in
+    let P : Option A → Type 0 = λ o. Valid (when false t) o × (b ≡ bits_of (when false t) o ++ rest) in
+    subst P (ap (λ p. p.0) same) (refl, ap (λ p. p.1) same)
+reads-read (repeat {A = A} index n t) b vs rest e =
+    let found =
+      each-read (λ before c. read (t before) c) (λ before v. bits_of (t before) v) (λ before v. Valid (t before) v)
+        (λ before c v more first. reads-read (t before) c v more first) n [] b vs rest e in
+    let P : List A → Type 0 = λ l. Valid (repeat index n t) l × (b ≡ bits_of (repeat index n t) l ++ rest) in
+    subst P (sym found.1) ((found.2, found.3), found.4)
+reads-read (by_rule r t) b v rest e = reads-read t b v rest (counted-ok r (read t b) (v, rest) e)
+reads-read (padded {A = A} pad t) b v rest e =
+    go (bind-ok (read t b) (λ x. bits.◌>>=◌ (behind (pad x.0 (length b - length x.1)) x.1) (λ more. Ok (x.0, more))) (v, rest) e) (reads-read t b)
+  where
+    go :
+      (x : A × List Bool) × (read t b ≡ Ok x)
+        × (Path (Result (A × List Bool) Fault) (bits.◌>>=◌ (behind (pad x.0 (length b - length x.1)) x.1) (λ more. Ok (x.0, more))) (Ok (v, rest)))
+      → ((a : A) (more : List Bool) → read t b ≡ Ok (a, more) → Valid t a × (b ≡ bits_of t a ++ more))
+      → Valid t v × (b ≡ bits_of t v ++ pad v (length (bits_of t v)) ++ rest)
+    go (x, first, second) one =
+      let (more, there, last) = bind-ok (behind (pad x.0 (length b - length x.1)) x.1) (λ y. Ok (x.0, y)) (v, rest) second in
+      let same : (x.0, more) ≡ (v, rest) = ok_value _ _ last in
+      let left : x.0 ≡ v = ap (λ p. p.0) same in
+      let right : more ≡ rest = ap (λ p. p.1) same in
+      let h : Valid t v × (b ≡ bits_of t v ++ x.1) = one v x.1 (first ∙ ap (λ y. Ok (y, x.1)) left) in
+      let own : List Bool = bits_of t v in
+      let count : length b - length x.1 ≡ length own = ap (λ y. length y - length x.1) h.1 ∙ rw (length-append own x.1) (omega arith) in
+      let stood : x.1 ≡ pad v (length own) ++ rest =
+        behind-found (pad v (length own)) x.1 rest
+          (sym (ap (λ y. behind (pad y (length b - length x.1)) x.1) left ∙ ap (λ y. behind (pad v y) x.1) count) ∙ there ∙ ap (λ y. Ok y) right) in
+      (h.0, h.1 ∙ ap (λ y. own ++ y) stood ∙ sym (append_assoc own (pad v (length own)) rest))
+reads-read (shaped {A = A} {B = B} to from same t) b v rest e = go (kept-ok to (read t b) v rest e) (reads-read t b)
+  where
+    go :
+      (w : A) × (read t b ≡ Ok (w, rest)) × (to w ≡ v)
+      → ((a : A) (more : List Bool) → read t b ≡ Ok (a, more) → Valid t a × (b ≡ bits_of t a ++ more))
+      → (Valid t (from v) × (to (from v) ≡ v)) × (b ≡ bits_of t (from v) ++ rest)
+    go (w, first, form) one =
+      let back : w ≡ from v = sym (same w) ∙ ap from form in
+      let h : Valid t (from v) × (b ≡ bits_of t (from v) ++ rest) = one (from v) rest (first ∙ ap (λ y. Ok (y, rest)) back) in
+      ((h.0, sym (ap to back) ∙ form), h.1)
