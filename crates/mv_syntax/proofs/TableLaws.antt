@@ -4,11 +4,15 @@ use Rattle.std.proofs.Common.{◌≡◌, ℕ, zero, suc, ◌+◌, ◌-◌, ◌^�
 use Rattle.mv_syntax.specs.Bits.{Fault, short, breaks, kept, u_bits, take_bits, ue_bits, take_ue, se_code, se_bits, take_se}
 use Rattle.mv_syntax.specs.Bits as bits
 use Rattle.mv_syntax.specs.Table.{Table, u, ue, se, named, refused, checked, ◌>>=◌, when, repeat, by_rule, padded, shaped, in_turn, EachValid, bits_of, Valid, Reads, EachCut, Cut, counted_as, read_each, behind, read, put_each, put}
+use Rattle.mv_syntax.specs.Laws.{ReadsSome, CutBySome, ExactlyOne, RoundTrips}
 use Rattle.mv_syntax.proofs.BitLaws.{take_bits-u_bits, take_bits-printed, take_bits-failed, take_ue-ue_bits, take_ue-printed, take_ue-failed, take_se-se_bits, take_se-printed, take_se-failed}
 
 -- ---- the parts of an answer
 pub ok_value : {A B : Type 0} (x y : A) → Path (Result A B) (Ok x) (Ok y) → x ≡ y
 ok_value x y e = cc
+
+pub ok_err : {A B : Type 0} (x : A) (y : B) → Path (Result A B) (Ok x) (Err y) → ⊥
+ok_err x y e = cc
 
 -- bits that stand there are found, and what is found stood there
 pub behind-there : (xs rest : List Bool) → behind xs (xs ++ rest) ≡ Ok rest
@@ -223,3 +227,190 @@ reads-read (shaped {A = A} {B = B} to from same t) b v rest e = go (kept-ok to (
       let back : w ≡ from v = sym (same w) ∙ ap from form in
       let h : Valid t (from v) × (b ≡ bits_of t (from v) ++ rest) = one (from v) rest (first ∙ ap (λ y. Ok (y, rest)) back) in
       ((h.0, sym (ap to back) ∙ form), h.1)
+
+-- ---- a value reads exactly where the reader answers it
+pub read-reads : {A : Type 0} (t : Table A) (b : List Bool) (v : A) (rest : List Bool) → Reads t b v rest → read t b ≡ Ok (v, rest)
+read-reads t b v rest h = rw h.bits (read-ok t v rest h.valid)
+
+pub reads-of : {A : Type 0} (t : Table A) (b : List Bool) (v : A) (rest : List Bool) → read t b ≡ Ok (v, rest) → Reads t b v rest
+reads-of t b v rest e = let h : Valid t v × (b ≡ bits_of t v ++ rest) = reads-read t b v rest e in record { valid = h.0; bits = h.1 }
+
+-- ---- a rule cuts exactly where the reader answers it
+pub each-cut :
+    {A : Type 0} (one : List A → List Bool → Result (A × List Bool) Fault) (cut : List A → List Bool → Type 0) (reads : List A → List Bool → A → List Bool → Type 0) (r : ℕ)
+    → ((before : List A) (b : List Bool) → cut before b → one before b ≡ Err (breaks r))
+    → ((before : List A) (b : List Bool) (v : A) (rest : List Bool) → reads before b v rest → one before b ≡ Ok (v, rest))
+    → (n : ℕ) (before : List A) (b : List Bool) → EachCut cut reads n before b → read_each one n before b ≡ Err (breaks r)
+each-cut one cut reads r cuts ok zero before b h = absurd h
+each-cut one cut reads r cuts ok (suc n) before b (inl h) = rw (cuts before b h) refl
+each-cut one cut reads r cuts ok (suc n) before b (inr (v, rest, first, others)) =
+    rw (ok before b v rest first) (each-cut one cut reads r cuts ok n (before ++ v ∷ []) rest others)
+
+pub read-cut : {A : Type 0} (t : Table A) (b : List Bool) (r : ℕ) → Cut t b r → read t b ≡ Err (breaks r)
+read-cut (u n) b r h = absurd h
+read-cut ue b r h = absurd h
+read-cut se b r h = absurd h
+read-cut (named name t) b r h = read-cut t b r h
+read-cut (refused s bad t) b r (inl h) = rw (read-cut t b r h) refl
+read-cut (refused s bad t) b r (inr (v, rest, reads, broken, same)) = rw (read-reads t b v rest reads, broken, same) refl
+read-cut (checked s bad t) b r (inl (broken, same)) = rw (broken, same) refl
+read-cut (checked s bad t) b r (inr (fine, h)) = rw fine (read-cut t b r h)
+read-cut (t >>= f) b r (inl h) = rw (read-cut t b r h) refl
+read-cut (t >>= f) b r (inr (v, rest, reads, h)) = rw (read-reads t b v rest reads, read-cut (f v) rest r h) refl
+read-cut (when true t) b r (c, h) = rw (read-cut t b r h) refl
+read-cut (when false t) b r (c, h) = cc
+read-cut (repeat index n t) b r h =
+    each-cut (λ before c. read (t before) c) (λ before c. Cut (t before) c r) (λ before c v rest. Reads (t before) c v rest) r
+      (λ before c cut. read-cut (t before) c r cut) (λ before c v rest reads. read-reads (t before) c v rest reads) n [] b h
+read-cut (by_rule s t) b r (same, (q, h)) = rw (read-cut t b q h, same) refl
+read-cut (padded pad t) b r h = rw (read-cut t b r h) refl
+read-cut (shaped to from same t) b r h = rw (read-cut t b r h) refl
+
+-- a fault that is short is none that breaks a rule
+pub short-breaks : (r : ℕ) → Path Fault (breaks r) short → ⊥
+short-breaks r e = cc
+
+pub breaks-same : (r s : ℕ) → Path Fault (breaks r) (breaks s) → r ≡ s
+breaks-same r s e = cc
+
+pub err_fault : {A : Type 0} (x y : Fault) → Path (Result A Fault) (Err x) (Err y) → x ≡ y
+err_fault x y e = cc
+
+pub cut-each :
+    {A : Type 0} (one : List A → List Bool → Result (A × List Bool) Fault) (cut : List A → List Bool → Type 0) (reads : List A → List Bool → A → List Bool → Type 0) (r : ℕ)
+    → ((before : List A) (b : List Bool) → one before b ≡ Err (breaks r) → cut before b)
+    → ((before : List A) (b : List Bool) (v : A) (rest : List Bool) → one before b ≡ Ok (v, rest) → reads before b v rest)
+    → (n : ℕ) (before : List A) (b : List Bool) → read_each one n before b ≡ Err (breaks r) → EachCut cut reads n before b
+cut-each one cut reads r cuts ok zero before b e = cc
+cut-each {A = A} one cut reads r cuts ok (suc n) before b e =
+    go (bind-err (one before b) (λ x. read_each one n (before ++ x.0 ∷ []) x.1) (breaks r) e)
+      (λ x others. cut-each one cut reads r cuts ok n (before ++ x.0 ∷ []) x.1 others)
+  where
+    go :
+      (one before b ≡ Err (breaks r)) ⊎ ((x : A × List Bool) × (one before b ≡ Ok x) × (read_each one n (before ++ x.0 ∷ []) x.1 ≡ Err (breaks r)))
+      → ((x : A × List Bool) → read_each one n (before ++ x.0 ∷ []) x.1 ≡ Err (breaks r) → EachCut cut reads n (before ++ x.0 ∷ []) x.1)
+      → EachCut cut reads (suc n) before b
+    go (inl h) later = inl (cuts before b h)
+    go (inr (x, first, others)) later = inr (x.0, x.1, ok before b x.0 x.1 first, later x others)
+
+pub cut-read : {A : Type 0} (t : Table A) (b : List Bool) (r : ℕ) → read t b ≡ Err (breaks r) → Cut t b r
+cut-read (u n) b r e = short-breaks r (take_bits-failed n 0 b (breaks r) e).0
+cut-read ue b r e = short-breaks r (take_ue-failed b (breaks r) e).0
+cut-read se b r e = short-breaks r (take_se-failed b (breaks r) e).0
+cut-read (named name t) b r e = cut-read t b r e
+cut-read (refused {A = A} s bad t) b r e = go (bind-err (read t b) (λ x. if bad x.0 then Err (breaks s) else Ok x) (breaks r) e) (cut-read t b r)
+  where
+    go :
+      (read t b ≡ Err (breaks r)) ⊎ ((x : A × List Bool) × (read t b ≡ Ok x) × (Path (Result (A × List Bool) Fault) (if bad x.0 then Err (breaks s) else Ok x) (Err (breaks r))))
+      → (read t b ≡ Err (breaks r) → Cut t b r)
+      → Cut (refused s bad t) b r
+    go (inl h) later = inl (later h)
+    go (inr (x, first, second)) later =
+      let (broken, same) = refused-err (bad x.0) (breaks s) (breaks r) x second in
+      inr (x.0, x.1, reads-of t b x.0 x.1 first, broken, sym (breaks-same s r same))
+cut-read (checked s true t) b r e = inl (refl, sym (breaks-same s r (err_fault _ _ e)))
+cut-read (checked s false t) b r e = inr (refl, cut-read t b r e)
+cut-read (◌>>=◌ {A = A} {B = B} t f) b r e =
+    go (bind-err (read t b) (λ x. kept (λ y. (x.0, y)) (read (f x.0) x.1)) (breaks r) e) (cut-read t b r) (λ a c later. cut-read (f a) c r later)
+  where
+    go :
+      (read t b ≡ Err (breaks r)) ⊎ ((x : A × List Bool) × (read t b ≡ Ok x) × (Path (Result ((A × B) × List Bool) Fault) (kept (λ y. (x.0, y)) (read (f x.0) x.1)) (Err (breaks r))))
+      → (read t b ≡ Err (breaks r) → Cut t b r)
+      → ((a : A) (c : List Bool) → read (f a) c ≡ Err (breaks r) → Cut (f a) c r)
+      → Cut (t >>= f) b r
+    go (inl h) one two = inl (one h)
+    go (inr (x, first, second)) one two =
+      inr (x.0, x.1, reads-of t b x.0 x.1 first, two x.0 x.1 (kept-err (λ y. (x.0, y)) (read (f x.0) x.1) (breaks r) second))
+cut-read (when true t) b r e = (refl, cut-read t b r (kept-err Some (read t b) (breaks r) e))
+cut-read (when false t) b r e = cc
+cut-read (repeat index n t) b r e =
+    cut-each (λ before c. read (t before) c) (λ before c. Cut (t before) c r) (λ before c v rest. Reads (t before) c v rest) r
+      (λ before c first. cut-read (t before) c r first) (λ before c v rest first. reads-of (t before) c v rest first) n [] b e
+cut-read (by_rule s t) b r e =
+    let (same, (q, h)) = counted-err s (read t b) r e in (same, (q, cut-read t b q h))
+cut-read (padded {A = A} pad t) b r e =
+    go (bind-err (read t b) (λ x. bits.◌>>=◌ (behind (pad x.0 (length b - length x.1)) x.1) (λ more. Ok (x.0, more))) (breaks r) e) (cut-read t b r)
+  where
+    go :
+      (read t b ≡ Err (breaks r)) ⊎ ((x : A × List Bool) × (read t b ≡ Ok x) × (Path (Result (A × List Bool) Fault) (bits.◌>>=◌ (behind (pad x.0 (length b - length x.1)) x.1) (λ more. Ok (x.0, more))) (Err (breaks r))))
+      → (read t b ≡ Err (breaks r) → Cut t b r)
+      → Cut t b r
+    go (inl h) later = later h
+    go (inr (x, first, second)) later = elim (bind-err (behind (pad x.0 (length b - length x.1)) x.1) (λ y. Ok (x.0, y)) (breaks r) second)
+      [ inl missing ↦ absurd (short-breaks r (behind-failed (pad x.0 (length b - length x.1)) x.1 (breaks r) missing)) | inr (y, there, never) ↦ cc ]
+cut-read (shaped to from same t) b r e = cut-read t b r (kept-err to (read t b) (breaks r) e)
+
+-- ---- the writer's form
+pub put_each-is :
+    {A : Type 0} (one : List A → A → List Bool → List Bool) (print : List A → A → List Bool)
+    → ((before : List A) (v : A) (out : List Bool) → one before v out ≡ out ++ print before v)
+    → (before vs : List A) (out : List Bool) → put_each one before vs out ≡ out ++ in_turn print before vs
+put_each-is one print is before [] out = sym (append-nil out)
+put_each-is one print is before (v ∷ vs) out =
+    rw (is before v out) (put_each-is one print is (before ++ v ∷ []) vs (out ++ print before v) ∙ append_assoc out (print before v) (in_turn print (before ++ v ∷ []) vs))
+
+-- what is put stands behind what was written before
+pub put-is : {A : Type 0} (t : Table A) (v : A) (out : List Bool) → put t v out ≡ out ++ bits_of t v
+put-is (u n) v out = refl
+put-is ue v out = refl
+put-is se v out = refl
+put-is (named name t) v out = put-is t v out
+put-is (refused r bad t) v out = put-is t v out
+put-is (checked r bad t) v out = put-is t v out
+put-is (t >>= f) v out =
+    rw (put-is t v.0 out) (put-is (f v.0) v.1 (out ++ bits_of t v.0) ∙ append_assoc out (bits_of t v.0) (bits_of (f v.0) v.1))
+put-is (when c t) (Some v) out = put-is t v out
+put-is (when c t) None out = sym (append-nil out)
+put-is (repeat index n t) vs out =
+    put_each-is (λ before v c. put (t before) v c) (λ before v. bits_of (t before) v) (λ before v c. put-is (t before) v c) [] vs out
+put-is (by_rule r t) v out = put-is t v out
+put-is (padded pad t) v out =
+    let own : List Bool = bits_of t v in
+    let count : length (out ++ own) - length out ≡ length own = rw (length-append out own) (omega arith) in
+    rw (put-is t v out, count) (append_assoc out own (pad v (length own)))
+put-is (shaped to from same t) v out = put-is t (from v) out
+
+-- what is put behind nothing is what is printed
+pub put-nil : {A : Type 0} (t : Table A) (v : A) → put t v [] ≡ bits_of t v
+put-nil t v = put-is t v []
+
+-- ---- the three answers
+pub one_value : {A : Type 0} (t : Table A) (b : List Bool) (v w : A) (rest more : List Bool) → Reads t b v rest → Reads t b w more → (v ≡ w) × (rest ≡ more)
+one_value {A} t b v w rest more h k =
+    let same : Path (A × List Bool) (v, rest) (w, more) = ok_value _ _ (sym (read-reads t b v rest h) ∙ read-reads t b w more k) in
+    (ap (λ p. p.0) same, ap (λ p. p.1) same)
+
+pub one_rule : {A : Type 0} (t : Table A) (b : List Bool) (r s : ℕ) → Cut t b r → Cut t b s → r ≡ s
+one_rule t b r s h k = breaks-same r s (err_fault _ _ (sym (read-cut t b r h) ∙ read-cut t b s k))
+
+pub not_both : {A : Type 0} (t : Table A) (b : List Bool) → ReadsSome t b → CutBySome t b → ⊥
+not_both t b (v, rest, h) (r, k) = ok_err (v, rest) (breaks r) (sym (read-reads t b v rest h) ∙ read-cut t b r k)
+
+-- the reader is short exactly where no value reads and no rule cuts
+pub short-neither : {A : Type 0} (t : Table A) (b : List Bool) → read t b ≡ Err short → ¬ ReadsSome t b × ¬ CutBySome t b
+short-neither t b e =
+    ((λ h. ok_err (h.0, h.1) short (sym (read-reads t b h.0 h.1 h.2) ∙ e)),
+     (λ h. short-breaks h.0 (err_fault _ _ (sym (read-cut t b h.0 h.1) ∙ e))))
+
+pub neither-short : {A : Type 0} (t : Table A) (b : List Bool) → ¬ ReadsSome t b → ¬ CutBySome t b → read t b ≡ Err short
+neither-short {A} t b none uncut = go (read t b) refl
+  where
+    go : (x : Result (A × List Bool) Fault) → read t b ≡ x → x ≡ Err short
+    go (Ok x) e = absurd (none (x.0, x.1, reads-of t b x.0 x.1 e))
+    go (Err short) e = refl
+    go (Err (breaks r)) e = absurd (uncut (r, cut-read t b r e))
+
+pub exactly_one : {A : Type 0} (t : Table A) (b : List Bool) → ExactlyOne t b
+exactly_one {A} t b = record {
+    one_of = go (read t b) refl;
+    not_both = not_both t b;
+    one_value = one_value t b;
+    one_rule = one_rule t b }
+  where
+    go : (x : Result (A × List Bool) Fault) → read t b ≡ x → ReadsSome t b ⊎ CutBySome t b ⊎ (¬ ReadsSome t b × ¬ CutBySome t b)
+    go (Ok x) e = inl (x.0, x.1, reads-of t b x.0 x.1 e)
+    go (Err short) e = inr (inr (short-neither t b e))
+    go (Err (breaks r)) e = inr (inl (r, cut-read t b r e))
+
+pub round_trips : {A : Type 0} (t : Table A) → RoundTrips t
+round_trips t = record { written_reads = λ v rest h. read-ok t v rest h; read_writes = λ b v rest e. reads-read t b v rest e }
