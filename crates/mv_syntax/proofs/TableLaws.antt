@@ -4,7 +4,7 @@ use Rattle.std.proofs.Common.{◌≡◌, ℕ, zero, suc, ◌+◌, ◌-◌, ◌^�
 use Rattle.mv_syntax.specs.Bits.{Fault, short, breaks, kept, u_bits, take_bits, ue_bits, take_ue, se_code, se_bits, take_se}
 use Rattle.mv_syntax.specs.Bits as bits
 use Rattle.mv_syntax.specs.Table.{Table, u, ue, se, named, refused, checked, ◌>>=◌, when, repeat, by_rule, padded, shaped, in_turn, EachValid, bits_of, Valid, Reads, EachCut, Cut, counted_as, read_each, behind, read, put_each, put}
-use Rattle.mv_syntax.specs.Laws.{ReadsSome, CutBySome, ExactlyOne, RoundTrips}
+use Rattle.mv_syntax.specs.Laws.{ExactlyOneOf, ReadsAt, ExactlyOne, RoundTrips, Splits, Prefixes}
 use Rattle.mv_syntax.proofs.BitLaws.{take_bits-u_bits, take_bits-printed, take_bits-failed, take_ue-ue_bits, take_ue-printed, take_ue-failed, take_se-se_bits, take_se-printed, take_se-failed}
 
 -- ---- the parts of an answer
@@ -375,42 +375,101 @@ pub put-nil : {A : Type 0} (t : Table A) (v : A) → put t v [] ≡ bits_of t v
 put-nil t v = put-is t v []
 
 -- ---- the three answers
-pub one_value : {A : Type 0} (t : Table A) (b : List Bool) (v w : A) (rest more : List Bool) → Reads t b v rest → Reads t b w more → (v ≡ w) × (rest ≡ more)
-one_value {A} t b v w rest more h k =
-    let same : Path (A × List Bool) (v, rest) (w, more) = ok_value _ _ (sym (read-reads t b v rest h) ∙ read-reads t b w more k) in
-    (ap (λ p. p.0) same, ap (λ p. p.1) same)
+-- An answer from a list of bits: a value exactly where one reads, a rule exactly where it cuts.
+pub record Answered {V : Type 0} (answer : Result V Fault) (reads : V → Type 0) (cut : ℕ → Type 0) : Type 0 where
+  pub value : (v : V) → reads v → answer ≡ Ok v
+  pub is_value : (v : V) → answer ≡ Ok v → reads v
+  pub rule : (r : ℕ) → cut r → answer ≡ Err (breaks r)
+  pub is_rule : (r : ℕ) → answer ≡ Err (breaks r) → cut r
 
-pub one_rule : {A : Type 0} (t : Table A) (b : List Bool) (r s : ℕ) → Cut t b r → Cut t b s → r ≡ s
-one_rule t b r s h k = breaks-same r s (err_fault _ _ (sym (read-cut t b r h) ∙ read-cut t b s k))
-
-pub not_both : {A : Type 0} (t : Table A) (b : List Bool) → ReadsSome t b → CutBySome t b → ⊥
-not_both t b (v, rest, h) (r, k) = ok_err (v, rest) (breaks r) (sym (read-reads t b v rest h) ∙ read-cut t b r k)
-
--- the reader is short exactly where no value reads and no rule cuts
-pub short-neither : {A : Type 0} (t : Table A) (b : List Bool) → read t b ≡ Err short → ¬ ReadsSome t b × ¬ CutBySome t b
-short-neither t b e =
-    ((λ h. ok_err (h.0, h.1) short (sym (read-reads t b h.0 h.1 h.2) ∙ e)),
-     (λ h. short-breaks h.0 (err_fault _ _ (sym (read-cut t b h.0 h.1) ∙ e))))
-
-pub neither-short : {A : Type 0} (t : Table A) (b : List Bool) → ¬ ReadsSome t b → ¬ CutBySome t b → read t b ≡ Err short
-neither-short {A} t b none uncut = go (read t b) refl
+-- where there is such an answer, exactly one of the three holds
+pub one_of_three : {V : Type 0} (answer : Result V Fault) (reads : V → Type 0) (cut : ℕ → Type 0) → Answered answer reads cut → ExactlyOneOf reads cut
+one_of_three {V} answer reads cut h = record {
+    one_of = go answer refl;
+    not_both = both;
+    one_value = λ v w one other. ok_value v w (sym (h.value v one) ∙ h.value w other);
+    one_rule = λ r s one other. breaks-same r s (err_fault (breaks r) (breaks s) (sym (h.rule r one) ∙ h.rule s other)) }
   where
-    go : (x : Result (A × List Bool) Fault) → read t b ≡ x → x ≡ Err short
-    go (Ok x) e = absurd (none (x.0, x.1, reads-of t b x.0 x.1 e))
+    both : (v : V) (r : ℕ) → reads v → cut r → ⊥
+    both v r one other = ok_err v (breaks r) (sym (h.value v one) ∙ h.rule r other)
+    go : (x : Result V Fault) → answer ≡ x → ((v : V) × reads v) ⊎ ((r : ℕ) × cut r) ⊎ (¬ ((v : V) × reads v) × ¬ ((r : ℕ) × cut r))
+    go (Ok x) e = inl (x, h.is_value x e)
+    go (Err short) e =
+      inr (inr ((λ k. ok_err k.0 short (sym (h.value k.0 k.1) ∙ e)), (λ k. short-breaks k.0 (err_fault (breaks k.0) short (sym (h.rule k.0 k.1) ∙ e)))))
+    go (Err (breaks r)) e = inr (inl (r, h.is_rule r e))
+
+-- neither holds exactly where the answer is short
+pub short-neither : {V : Type 0} (answer : Result V Fault) (reads : V → Type 0) (cut : ℕ → Type 0) → Answered answer reads cut
+  → answer ≡ Err short → ¬ ((v : V) × reads v) × ¬ ((r : ℕ) × cut r)
+short-neither answer reads cut h e =
+    ((λ k. ok_err k.0 short (sym (h.value k.0 k.1) ∙ e)), (λ k. short-breaks k.0 (err_fault (breaks k.0) short (sym (h.rule k.0 k.1) ∙ e))))
+
+pub neither-short : {V : Type 0} (answer : Result V Fault) (reads : V → Type 0) (cut : ℕ → Type 0) → Answered answer reads cut
+  → ¬ ((v : V) × reads v) → ¬ ((r : ℕ) × cut r) → answer ≡ Err short
+neither-short {V} answer reads cut h none uncut = go answer refl
+  where
+    go : (x : Result V Fault) → answer ≡ x → x ≡ Err short
+    go (Ok x) e = absurd (none (x, h.is_value x e))
     go (Err short) e = refl
-    go (Err (breaks r)) e = absurd (uncut (r, cut-read t b r e))
+    go (Err (breaks r)) e = absurd (uncut (r, h.is_rule r e))
+
+pub table_answered : {A : Type 0} (t : Table A) (b : List Bool) → Answered (read t b) (ReadsAt t b) (Cut t b)
+table_answered t b = record {
+  value = λ x h. read-reads t b x.0 x.1 h;
+  is_value = λ x e. reads-of t b x.0 x.1 e;
+  rule = λ r h. read-cut t b r h;
+  is_rule = λ r e. cut-read t b r e }
 
 pub exactly_one : {A : Type 0} (t : Table A) (b : List Bool) → ExactlyOne t b
-exactly_one {A} t b = record {
-    one_of = go (read t b) refl;
-    not_both = not_both t b;
-    one_value = one_value t b;
-    one_rule = one_rule t b }
-  where
-    go : (x : Result (A × List Bool) Fault) → read t b ≡ x → ReadsSome t b ⊎ CutBySome t b ⊎ (¬ ReadsSome t b × ¬ CutBySome t b)
-    go (Ok x) e = inl (x.0, x.1, reads-of t b x.0 x.1 e)
-    go (Err short) e = inr (inr (short-neither t b e))
-    go (Err (breaks r)) e = inr (inl (r, cut-read t b r e))
+exactly_one t b = one_of_three (read t b) (ReadsAt t b) (Cut t b) (table_answered t b)
 
 pub round_trips : {A : Type 0} (t : Table A) → RoundTrips t
 round_trips t = record { written_reads = λ v rest h. read-ok t v rest h; read_writes = λ b v rest e. reads-read t b v rest e }
+
+-- ---- the split between two fields
+pub splits : {A B : Type 0} (t : Table A) (f : A → Table B) (b : List Bool) → Splits t f b
+splits t f b = record {
+  reads = λ v rest.
+    ((λ h. (bits_of (f v.0) v.1 ++ rest,
+        record { valid = h.valid.0; bits = h.bits ∙ append_assoc (bits_of t v.0) (bits_of (f v.0) v.1) rest },
+        record { valid = h.valid.1; bits = refl })),
+     (λ h. record {
+        valid = (h.1.valid, h.2.valid);
+        bits = h.1.bits ∙ ap (λ c. bits_of t v.0 ++ c) h.2.bits ∙ sym (append_assoc (bits_of t v.0) (bits_of (f v.0) v.1) rest) }));
+  cut = λ r. ((λ h. h), (λ h. h)) }
+
+-- ---- what follows changes nothing
+pub reads-more : {A : Type 0} (t : Table A) (b : List Bool) (v : A) (rest more : List Bool) → Reads t b v rest → Reads t (b ++ more) v (rest ++ more)
+reads-more t b v rest more h = record { valid = h.valid; bits = ap (λ c. c ++ more) h.bits ∙ append_assoc (bits_of t v) rest more }
+
+pub each_cut-more :
+    {A : Type 0} (cut : List A → List Bool → Type 0) (reads : List A → List Bool → A → List Bool → Type 0) (more : List Bool)
+    → ((before : List A) (b : List Bool) → cut before b → cut before (b ++ more))
+    → ((before : List A) (b : List Bool) (v : A) (rest : List Bool) → reads before b v rest → reads before (b ++ more) v (rest ++ more))
+    → (n : ℕ) (before : List A) (b : List Bool) → EachCut cut reads n before b → EachCut cut reads n before (b ++ more)
+each_cut-more cut reads more cuts keeps zero before b h = h
+each_cut-more cut reads more cuts keeps (suc n) before b (inl h) = inl (cuts before b h)
+each_cut-more cut reads more cuts keeps (suc n) before b (inr (v, rest, first, others)) =
+    inr (v, rest ++ more, keeps before b v rest first, each_cut-more cut reads more cuts keeps n (before ++ v ∷ []) rest others)
+
+pub cut-more : {A : Type 0} (t : Table A) (b : List Bool) (r : ℕ) (more : List Bool) → Cut t b r → Cut t (b ++ more) r
+cut-more (u n) b r more h = h
+cut-more ue b r more h = h
+cut-more se b r more h = h
+cut-more (named name t) b r more h = cut-more t b r more h
+cut-more (refused s bad t) b r more (inl h) = inl (cut-more t b r more h)
+cut-more (refused s bad t) b r more (inr (v, rest, reads, broken, same)) = inr (v, rest ++ more, reads-more t b v rest more reads, broken, same)
+cut-more (checked s bad t) b r more (inl h) = inl h
+cut-more (checked s bad t) b r more (inr (fine, h)) = inr (fine, cut-more t b r more h)
+cut-more (t >>= f) b r more (inl h) = inl (cut-more t b r more h)
+cut-more (t >>= f) b r more (inr (v, rest, reads, h)) = inr (v, rest ++ more, reads-more t b v rest more reads, cut-more (f v) rest r more h)
+cut-more (when c t) b r more (holds, h) = (holds, cut-more t b r more h)
+cut-more (repeat index n t) b r more h =
+    each_cut-more (λ before c. Cut (t before) c r) (λ before c v rest. Reads (t before) c v rest) more
+      (λ before c cut. cut-more (t before) c r more cut) (λ before c v rest reads. reads-more (t before) c v rest more reads) n [] b h
+cut-more (by_rule s t) b r more (same, (q, h)) = (same, (q, cut-more t b q more h))
+cut-more (padded pad t) b r more h = cut-more t b r more h
+cut-more (shaped to from same t) b r more h = cut-more t b r more h
+
+pub prefixes : {A : Type 0} (t : Table A) (b more : List Bool) → Prefixes t b more
+prefixes t b more = record { reads = λ v rest h. reads-more t b v rest more h; cut = λ r h. cut-more t b r more h }
