@@ -1,4 +1,4 @@
 pub mod BitLaws
-pub mod TableLaws
-pub mod PayloadLaws
 pub mod LineLaws
+pub mod PayloadLaws
+pub mod TableLaws

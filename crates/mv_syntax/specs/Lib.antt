@@ -1,6 +1,7 @@
 pub mod Bits
-pub mod Table
+pub mod Cursor
 pub mod Laws
-pub mod Words
 pub mod Lines
 pub mod Payload
+pub mod Table
+pub mod Words
