@@ -1,3 +1,4 @@
+pub mod AnswerLaws
 pub mod BitLaws
 pub mod LineLaws
 pub mod PayloadLaws
