@@ -1,7 +1,7 @@
 -- Tables of H.265 that ask most of the language, as terms.
 use Rattle.std.specs.Prelude.{◌≡◌, ℕ, zero, suc, ◌+◌, ◌-◌, ◌*◌, ◌^◌, Bool, true, false, not, ◌&&◌, ◌||◌, List, [], ◌∷◌, ◌++◌, length, reverse, get_or, map, filter, take, cond, ℤ, pos, negsuc, neg_ℤ, ◌+ℤ◌, int_lt, nat_lt, nat_le, nat_eq, Option, Some, None, is_some, sum, max, if◌then◌else◌, refl}
 use Rattle.mv_syntax.specs.Table.{Table, u, ue, se, named, ◌>>=◌, when, repeat, by_rule}
-use Rattle.mv_syntax.specs.Words.{◌>>◌, ◌!◌∶◌, tried, over, is, is_not, is_set, ◌otherwise◌, or_zero, coded_set, last_coded, ◌▸◌, for_each, for_below, for_range, columns, items, more_columns, aligned_where, whole_bytes}
+use Rattle.mv_syntax.specs.Words.{◌>>◌, ◌!◌∶◌, tried, over, is, is_not, is_set, ◌otherwise◌, or_zero, coded_set, last_coded, ◌⊗◌, for_each, for_below, for_range, columns, items, more_columns, aligned_where, whole_bytes}
 
 -- ---- hrd_parameters(common, subs) (E.2.2)
 -- The flags of the first group that are in force: those coded here, or else those of the hrd_parameters before.
@@ -10,8 +10,11 @@ pub record HrdFlags : Type 0 where
   pub vcl : Bool
   pub sub_pic : Bool
 
--- sub_layer_hrd_parameters (E.2.3)
-unfoldable pub sub_layer_hrd : Bool → ℕ → Table _
+-- sub_layer_hrd_parameters (E.2.3): a bit rate, a size, both for decoding units, and the flag
+abbrev pub CpbEntry : Type 0
+CpbEntry = ℕ ⊗ ℕ ⊗ Option ℕ ⊗ Option ℕ ⊗ ℕ
+
+unfoldable pub sub_layer_hrd : Bool → ℕ → Table (List CpbEntry)
 sub_layer_hrd sub_pic cpb_cnt_minus1 = for_range 0 cpb_cnt_minus1 λ k _. do
   named "bit_rate_value_minus1" ue
   named "cpb_size_value_minus1" ue
@@ -19,7 +22,7 @@ sub_layer_hrd sub_pic cpb_cnt_minus1 = for_range 0 cpb_cnt_minus1 λ k _. do
   named "bit_rate_du_value_minus1" (when sub_pic ue)
   named "cbr_flag" (u 1)
 
-unfoldable pub hrd_parameters : Bool → ℕ → HrdFlags → Table _
+unfoldable pub hrd_parameters : Bool → ℕ → HrdFlags → Table (Option ℕ ⊗ Option ℕ ⊗ Option ℕ ⊗ Option ℕ ⊗ Option ℕ ⊗ Option ℕ ⊗ Option ℕ ⊗ Option ℕ ⊗ Option ℕ ⊗ Option ℕ ⊗ Option ℕ ⊗ Option ℕ ⊗ Option ℕ ⊗ List (ℕ ⊗ Option ℕ ⊗ Option ℕ ⊗ Option ℕ ⊗ Option ℕ ⊗ Option (List CpbEntry) ⊗ Option (List CpbEntry)))
 hrd_parameters common subs before = do
   nal_hrd_parameters_present_flag ← named "nal_hrd_parameters_present_flag" (when common (u 1))
   vcl_hrd_parameters_present_flag ← named "vcl_hrd_parameters_present_flag" (when common (u 1))
@@ -96,23 +99,23 @@ abbrev pub rps_delta : ℕ → ℕ → ℤ
 rps_delta sign abs_minus1 = if is_set sign then neg_ℤ (pos (abs_minus1 + 1)) else pos (abs_minus1 + 1)
 
 -- a set predicted from an earlier one; it breaks the limit behind its last field where it has over 16 deltas
-unfoldable pub predicted_set : ℕ → ℕ → List (List Delta) → Table _
+unfoldable pub predicted_set : ℕ → ℕ → List (List Delta) → Table (Option ℕ ⊗ ℕ ⊗ ℕ ⊗ List ℕ ⊗ List (Option ℕ))
 predicted_set idx num earlier = fields ! 0 ∶ (λ v. over 16 (length (deltas v)))
   where
-    turn : Table (ℕ × Option ℕ)
+    turn : Table (ℕ ⊗ Option ℕ)
     turn = do
       used_by_curr_pic_flag ← named "used_by_curr_pic_flag" (u 1)
       named "use_delta_flag" (when (not (is_set used_by_curr_pic_flag)) (u 1))
-    fields : Table (Option ℕ × (ℕ × (ℕ × (List ℕ × List (Option ℕ)))))
+    fields : Table (Option ℕ ⊗ ℕ ⊗ ℕ ⊗ List ℕ ⊗ List (Option ℕ))
     fields = do
       delta_idx_minus1 ← named "delta_idx_minus1" (when (nat_eq idx num) (ue ! 0 ∶ over (idx - 1)))
       delta_rps_sign ← named "delta_rps_sign" (u 1)
       abs_delta_rps_minus1 ← named "abs_delta_rps_minus1" (ue ! 0 ∶ over 32767)
       columns 0 (length (reference earlier idx delta_idx_minus1) + 1) (λ j. turn)
-    deltas : Option ℕ × (ℕ × (ℕ × (List ℕ × List (Option ℕ)))) → List Delta
+    deltas : Option ℕ ⊗ ℕ ⊗ ℕ ⊗ List ℕ ⊗ List (Option ℕ) → List Delta
     deltas v = predicted (reference earlier idx v.0) (rps_delta v.1.0 v.1.1.0) v.1.1.1.0 v.1.1.1.1
 
-unfoldable pub direct_set : Table _
+unfoldable pub direct_set : Table (ℕ ⊗ ℕ ⊗ (List ℕ ⊗ List ℕ) ⊗ List ℕ ⊗ List ℕ)
 direct_set = do
   num_negative_pics ← named "num_negative_pics" (ue ! 0 ∶ over 16)
   num_positive_pics ← named "num_positive_pics" (ue ! 0 ∶ (λ n. over 16 (num_negative_pics + n)))
@@ -123,7 +126,7 @@ direct_set = do
     named "delta_poc_s1_minus1" (ue ! 0 ∶ over 32767)
     named "used_by_curr_pic_s1_flag" (u 1)
 
-unfoldable pub st_ref_pic_set : ℕ → ℕ → List (List Delta) → Table _
+unfoldable pub st_ref_pic_set : ℕ → ℕ → List (List Delta) → Table (Option ℕ ⊗ Option (Option ℕ ⊗ ℕ ⊗ ℕ ⊗ List ℕ ⊗ List (Option ℕ)) ⊗ Option (ℕ ⊗ ℕ ⊗ (List ℕ ⊗ List ℕ) ⊗ List ℕ ⊗ List ℕ))
 st_ref_pic_set idx num earlier = do
   inter_ref_pic_set_prediction_flag ← named "inter_ref_pic_set_prediction_flag" (when (nat_lt 0 idx) (u 1))
   when (coded_set inter_ref_pic_set_prediction_flag) (predicted_set idx num earlier)
@@ -153,7 +156,7 @@ abbrev pub any_of : {A : Type 0} → (A → Bool) → List A → Bool
 any_of test [] = false
 any_of test (x ∷ xs) = test x || any_of test xs
 
-unfoldable pub layers_and_dependencies : ℕ → List (List ℕ) → (List (List ℕ) → List ℕ → Bool) → (List (List ℕ) → List ℕ → Bool) → (List ℕ → List ℕ → Bool) → Table _
+unfoldable pub layers_and_dependencies : ℕ → List (List ℕ) → (List (List ℕ) → List ℕ → Bool) → (List (List ℕ) → List ℕ → Bool) → (List ℕ → List ℕ → Bool) → Table (ℕ ⊗ List ℕ ⊗ Option ℕ ⊗ ℕ ⊗ List (Option ℕ ⊗ ℕ) ⊗ ℕ ⊗ Option (List ℕ) ⊗ List (List ℕ) ⊗ Option ℕ)
 layers_and_dependencies m sets lacks_base lacks_direct unknown = do
   named "splitting_flag" (u 1 ! 12 ∶ is 1)
   scalability_mask_flag ← for_range 0 15 λ i _. named "scalability_mask_flag" (u 1 ! mask_rule i ∶ mask_bad m i)
@@ -174,7 +177,7 @@ layers_and_dependencies m sets lacks_base lacks_direct unknown = do
     (named "num_add_layer_sets" (when (nat_lt 1 m) (ue ! 19 ∶ over 0)))
 
 -- the output layer sets: how many layers set i has, which of them are necessary, and whether one output has direct references
-unfoldable pub output_layer_sets : ℕ → ℕ → ℕ → ℕ → (ℕ → Option ℕ → List ℕ) → (ℕ → Option ℕ → Option (List ℕ) → ℕ → Bool) → (ℕ → Option ℕ → Option (List ℕ) → Bool) → Table _
+unfoldable pub output_layer_sets : ℕ → ℕ → ℕ → ℕ → (ℕ → Option ℕ → List ℕ) → (ℕ → Option ℕ → Option (List ℕ) → ℕ → Bool) → (ℕ → Option ℕ → Option (List ℕ) → Bool) → Table (List (Option ℕ ⊗ Option (List ℕ) ⊗ List (Option ℕ) ⊗ Option ℕ))
 output_layer_sets num_layer_sets num_add_olss idc num_profiles_minus1 layers necessary one_output_refers =
     for_below 1 (num_layer_sets + num_add_olss) λ i before. do
       layer_set_idx_for_ols_minus1 ← named "layer_set_idx_for_ols_minus1" (when (nat_lt 2 num_layer_sets && nat_le num_layer_sets i)
@@ -187,7 +190,7 @@ output_layer_sets num_layer_sets num_add_olss idc num_profiles_minus1 layers nec
       named "alt_output_layer_flag" (when (one_output_refers i layer_set_idx_for_ols_minus1 output_layer_flag) (u 1 ! 20 ∶ is 1))
 
 -- dpb_size (F.7.3.2.1.3), over sets that earlier fields fix
-unfoldable pub dpb_size : ℕ → (ℕ → ℕ) → (ℕ → List Bool) → Table _
+unfoldable pub dpb_size : ℕ → (ℕ → ℕ) → (ℕ → List Bool) → Table (List (ℕ ⊗ List (Option ℕ ⊗ Option (List (Option ℕ) ⊗ ℕ ⊗ ℕ))))
 dpb_size num_output_layer_sets greatest_sub_layer necessary = for_below 1 num_output_layer_sets λ i _. do
   sub_layer_flag_info_present_flag ← named "sub_layer_flag_info_present_flag" (u 1)
   for_range 0 (greatest_sub_layer i) λ j _. do
@@ -198,7 +201,7 @@ dpb_size num_output_layer_sets greatest_sub_layer necessary = for_below 1 num_ou
       named "max_vps_latency_increase_plus1" ue
 
 -- the rep_formats, where a later one may leave out what the one before it has
-unfoldable pub rep_formats : ℕ → Table _
+unfoldable pub rep_formats : ℕ → Table (List (ℕ ⊗ ℕ ⊗ ℕ ⊗ Option ℕ ⊗ Option ℕ ⊗ Option ℕ ⊗ Option ℕ))
 rep_formats minus1 = for_range 0 minus1 λ i _. do
   named "pic_width_vps_in_luma_samples" (u 16 ! 26 ∶ (λ n. nat_eq n 0 || over 16384 n))
   named "pic_height_vps_in_luma_samples" (u 16 ! 26 ∶ (λ n. nat_eq n 0 || over 16384 n))
@@ -224,7 +227,7 @@ num_active ctx enabled coded =
 abbrev pub idc_coded : InterLayer → ℕ → Bool
 idc_coded ctx n = not (nat_eq n ctx.d)
 
-unfoldable pub inter_layer_part : InterLayer → Table _
+unfoldable pub inter_layer_part : InterLayer → Table (ℕ ⊗ Option ℕ ⊗ Option (List ℕ))
 inter_layer_part ctx = do
   inter_layer_pred_enabled_flag ← named "inter_layer_pred_enabled_flag" (u 1)
   let more : Bool = is_set inter_layer_pred_enabled_flag && nat_lt 1 ctx.d in do
@@ -236,7 +239,7 @@ inter_layer_part ctx = do
           (u (clog2 ctx.d) ! 52 ∶ (λ n. nat_le ctx.d n || any_of (λ m. nat_le n m) before)))
 
 -- the modifications of a list, where NumPicTotalCurr is known
-unfoldable pub list_modification : Bool → ℕ → ℕ → Option ℕ → Table _
+unfoldable pub list_modification : Bool → ℕ → ℕ → Option ℕ → Table (Option ℕ ⊗ Option (List ℕ) ⊗ Option ℕ ⊗ Option (List ℕ))
 list_modification present total active0 active1 = do
   ref_pic_list_modification_flag_l0 ← named "ref_pic_list_modification_flag_l0" (when (present && nat_lt 1 total) (u 1))
   when (coded_set ref_pic_list_modification_flag_l0) (for_each active0 λ _. named "list_entry_l0" (u (clog2 total)))
@@ -244,13 +247,13 @@ list_modification present total active0 active1 = do
   when (coded_set ref_pic_list_modification_flag_l1) (for_each (or_zero active1) λ _. named "list_entry_l1" (u (clog2 total)))
 
 -- pred_weight_table (7.3.6.3): for list 0, and for B then list 1, the active entries of each being known
-unfoldable pub pred_weight_table : Bool → List ℕ → Table _
+unfoldable pub pred_weight_table : Bool → List ℕ → Table (ℕ ⊗ Option ℤ ⊗ List (List ℕ ⊗ Option (List ℕ) ⊗ List (Option (ℤ ⊗ ℤ) ⊗ Option (List (ℤ ⊗ ℤ)))))
 pred_weight_table chroma active = do
   named "luma_log2_weight_denom" ue
   named "delta_chroma_log2_weight_denom" (when chroma se)
   for_each (length active) λ lists. one_list (get_or active (length lists) 0)
   where
-    one_list : ℕ → Table (List ℕ × (Option (List ℕ) × List (Option (ℤ × ℤ) × Option (List (ℤ × ℤ)))))
+    one_list : ℕ → Table (List ℕ ⊗ Option (List ℕ) ⊗ List (Option (ℤ ⊗ ℤ) ⊗ Option (List (ℤ ⊗ ℤ))))
     one_list n = do
       luma_weight_flag ← for_each n λ _. named "luma_weight_flag" (u 1)
       chroma_weight_flag ← when chroma (for_each n λ _. named "chroma_weight_flag" (u 1))
@@ -264,7 +267,7 @@ pred_weight_table chroma active = do
             named "delta_chroma_offset" se
 
 -- the entry points, and the extension of the header, with its alignment
-unfoldable pub entry_points : Bool → Bool → Table _
+unfoldable pub entry_points : Bool → Bool → Table (Option ℕ ⊗ Option ℕ ⊗ List ℕ ⊗ Option ℕ ⊗ List ℕ)
 entry_points tiles_or_sync extension = whole_bytes do
   num_entry_point_offsets ← named "num_entry_point_offsets" (when tiles_or_sync (ue ! 52 ∶ over 65535))
   offset_len_minus1 ← named "offset_len_minus1" (when (nat_lt 0 (or_zero num_entry_point_offsets)) (ue ! 52 ∶ over 31))

@@ -52,6 +52,11 @@ infixr 5 ◌▸◌
 abbrev pub ◌▸◌ : {A B : Type 0} → A → B → A × B
 a ▸ b = (a, b)
 
+-- The types of values in coded order: `A ⊗ B ⊗ C`.
+infixr 5 ◌⊗◌
+abbrev pub ◌⊗◌ : Type 0 → Type 0 → Type 0
+A ⊗ B = A × B
+
 -- `for each`: n turns, numbered from 0. The body may ask for the items before.
 abbrev pub for_each : {A : Type 0} → ℕ → (List A → Table A) → Table (List A)
 for_each n t = repeat (λ turn. turn) n t
@@ -72,8 +77,8 @@ unzipped (x ∷ xs) = (x.0 ∷ (unzipped xs).0, x.1 ∷ (unzipped xs).1)
 
 abbrev pub both_lists : {A B : Type 0} → List A → List B → List (A × B)
 both_lists [] bs = []
-both_lists (a ∷ as) [] = []
-both_lists (a ∷ as) (b ∷ bs) = (a, b) ∷ both_lists as bs
+both_lists (a ∷ others) [] = []
+both_lists (a ∷ others) (b ∷ bs) = (a, b) ∷ both_lists others bs
 
 abbrev pub zipped : {A B : Type 0} → List A × List B → List (A × B)
 zipped lists = both_lists lists.0 lists.1
