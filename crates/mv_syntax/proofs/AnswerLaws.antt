@@ -36,3 +36,6 @@ pub answers_header : {A X E : Type 0} (view : X → A) (bytes : X → ℕ) (mean
 answers_header view bytes means t old new (Ok x) h size = (new.left, reads-of t old.left (view x) new.left h.0, size)
 answers_header view bytes means t old new (Err e) h size =
     refuses (read t old.left) (λ v. Reads t old.left v.0 v.1) (Cut t old.left) (table_answered t old.left) (means e) h
+
+-- The lemmas for a call that reads on a fork of its reader, and moves the reader there where a value was read.
+pub ruleset answers = (answers_ok, answers_err)
