@@ -22,9 +22,9 @@ pub answers_ok : {A X E : Type 0} (view : X → A) (means : E → Option Fault) 
 answers_ok view means t old start new x same h =
     (reads-of t old.left (view x) new.left (sym (ap (λ c. read t c.left) same) ∙ h.0), h.1 ∙ ap (λ c. c.total) same)
 
-pub answers_err : {A X E : Type 0} (view : X → A) (means : E → Option Fault) (t : Table A) (old start ahead : Cursor) (e : E)
-  → start ≡ old → Fills view means start ahead (Err e) (read t start.left) → Answers view means t old old (Err e)
-answers_err view means t old start ahead e same h =
+pub answers_err : {A X E : Type 0} (view : X → A) (means : E → Option Fault) (t : Table A) (old start : Cursor) (e : E)
+  → start ≡ old → FailsAs (means e) (read t start.left) → Answers view means t old old (Err e)
+answers_err view means t old start e same h =
     (refuses (read t old.left) (λ v. Reads t old.left v.0 v.1) (Cut t old.left) (table_answered t old.left) (means e)
        (subst (λ c. FailsAs (means e) (read t c.left)) same h), refl)
 
