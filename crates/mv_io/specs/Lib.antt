@@ -1,1 +1,4 @@
+pub mod Faults
 pub mod Rule
+pub mod Sink
+pub mod Source

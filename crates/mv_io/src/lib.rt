@@ -6,6 +6,10 @@
 
 mod refusal;
 mod rule;
+mod sink;
+mod source;
 
 pub use refusal::{ReadFault, Refusal};
 pub use rule::Rule;
+pub use sink::{Sink, SinkFailed, write_all};
+pub use source::{Source, SourceFailed};
