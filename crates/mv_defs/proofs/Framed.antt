@@ -1,6 +1,7 @@
 -- Units that were framed are split again into the same units.
 use Rattle.std.proofs.Common.{◌≡◌, ◌≢◌, ℕ, zero, suc, ◌+◌, Bool, true, false, None, ◌||◌, List, [], ◌∷◌, ◌++◌, length, map, drop, refl, ap, sym, ◌∙◌, subst, append_assoc, append-nil}
-use Rattle.std.specs.List.{AllByRecursion}
+use Rattle.std.specs.List.{All, AllByRecursion}
+use Rattle.std.proofs.lemmas.List.Elements.{All-head, All-tail}
 use Rattle.mv_defs.specs.Units.{start_code, is_code, has_code, pieces, front_of, front, leading, trimmed, NalUnit, placed, units}
 use Rattle.mv_defs.specs.Framing.{frame, long_code, IsFramable}
 use Rattle.mv_defs.proofs.Pieces.{is_code-zero, pieces-code, pieces-clean}
@@ -34,11 +35,15 @@ pieces-frame : (u : List ℕ) (us : List (List ℕ)) → pieces (frame (u ∷ us
 unfolding frame has_code
 pieces-frame u us = pieces-code (0 ∷ []) (u ++ frame us) refl
 
-pub units-frame : (us : List (List ℕ)) → AllByRecursion IsFramable us → bytes_of (units (frame us)) ≡ us
+each : (us : List (List ℕ)) → All IsFramable us → AllByRecursion IsFramable us
+each [] all = tt
+each (u ∷ us) all = (All-head IsFramable u us all, each us (All-tail IsFramable u us all))
+
+pub units-frame : (us : List (List ℕ)) → All IsFramable us → bytes_of (units (frame us)) ≡ us
 unfolding placed pieces frame
 units-frame [] all = refl
 units-frame (u ∷ us) all =
-    ap (λ ps. bytes_of (drop 1 (placed 0 ps))) (pieces-frame u us) ∙ framed _ u us all.0 all.1
+    ap (λ ps. bytes_of (drop 1 (placed 0 ps))) (pieces-frame u us) ∙ framed _ u us (All-head IsFramable u us all) (each us (All-tail IsFramable u us all))
 
 pub leading-frame : (us : List (List ℕ)) → leading (frame us) ≡ None
 unfolding pieces frame

@@ -1,8 +1,9 @@
 -- The pieces of a string: they are its one split at start code prefixes, and what a longer string keeps of them.
-use Rattle.std.proofs.Common.{◌≡◌, ◌≢◌, ℕ, zero, suc, ◌+◌, ◌<◌, Bool, true, false, cond, ◌==◌, ◌&&◌, ◌||◌, List, [], ◌∷◌, ◌++◌, length, refl, ap, sym, ◌∙◌, subst, append_assoc, ◌⊎◌, inl, inr}
+use Rattle.std.proofs.Common.{◌≡◌, ◌≢◌, ℕ, zero, suc, ◌+◌, ◌<◌, Bool, true, false, cond, ◌==◌, ◌&&◌, ◌||◌, List, [], ◌∷◌, ◌++◌, length, refl, ap, sym, ◌∙◌, subst, append_assoc, ◌⊎◌, inl, inr, arith}
 use Rattle.std.proofs.lemmas.Bool.{or_parts, or_from, and_parts, eqb-true}
-use Rattle.std.specs.List.{AllByRecursion}
-use Rattle.mv_defs.specs.Units.{start_code, is_code, has_code, lead, pieces, joined, front_of, front}
+use Rattle.std.specs.List.{All}
+use Rattle.std.proofs.lemmas.List.Elements.{All-head, All-tail, All-cons, All-nil}
+use Rattle.mv_defs.specs.Units.{IsSplit, start_code, is_code, has_code, lead, pieces, joined, front_of, front}
 
 -- a code ends in 01
 pub is_code-zero : (a b : ℕ) → is_code a b 0 ≡ false
@@ -16,6 +17,11 @@ is_code-zero a b = go ((a == 0) && (b == 0))
 pub pieces-byte : (a b c : ℕ) (s : List ℕ) → is_code a b c ≡ false → pieces (a ∷ b ∷ c ∷ s) ≡ lead a (pieces (b ∷ c ∷ s))
 unfolding pieces
 pieces-byte a b c s h = rw (h, pieces) refl
+
+-- a code at the front
+pub pieces-at : (a b c : ℕ) (s : List ℕ) → is_code a b c ≡ true → pieces (a ∷ b ∷ c ∷ s) ≡ [] ∷ pieces s
+unfolding pieces
+pieces-at a b c s h = rw (h, pieces) refl
 
 -- a piece that is closed by a code
 pub pieces-code : (p s : List ℕ) → has_code p ≡ false → pieces (p ++ (start_code ++ s)) ≡ p ∷ pieces s
@@ -141,3 +147,32 @@ more (p ∷ q ∷ ps) t h =
 
 pub pieces-append : (s t : List ℕ) → pieces (s ++ t) ≡ closed_of (pieces s) ++ pieces (open_of (pieces s) ++ t)
 pieces-append s t = let is = pieces_split s in ap (λ r. pieces (r ++ t)) (sym is.1) ∙ more (pieces s) t is.0
+
+-- no code stands within a piece
+abbrev IsClean : List ℕ → Type 0
+IsClean p = has_code p ≡ false
+
+-- the same said of each piece
+clean-all : (ps : List (List ℕ)) → 0 < length ps → All (λ p. has_code p ≡ false) ps → AreClean ps
+clean-all [] some all = absurd (omega arith)
+clean-all (p ∷ []) some all = All-head IsClean p [] all
+clean-all (p ∷ q ∷ ps) some all =
+    let rest : 0 < length (q ∷ ps) = omega arith in
+    (All-head IsClean p (q ∷ ps) all, clean-all (q ∷ ps) rest (All-tail IsClean p (q ∷ ps) all))
+
+all-clean : (ps : List (List ℕ)) → AreClean ps → All (λ p. has_code p ≡ false) ps
+all-clean [] h = absurd h
+all-clean (p ∷ []) h = All-cons IsClean p [] h (All-nil IsClean)
+all-clean (p ∷ q ∷ ps) h = All-cons IsClean p (q ∷ ps) h.0 (all-clean (q ∷ ps) h.1)
+
+some-clean : (ps : List (List ℕ)) → AreClean ps → 0 < length ps
+some-clean [] h = absurd h
+some-clean (p ∷ ps) h = omega arith
+
+pub pieces-IsSplit : (s : List ℕ) → IsSplit s (pieces s)
+pieces-IsSplit s =
+    let is = pieces_split s in
+    record { some = some-clean (pieces s) is.0; clean = all-clean (pieces s) is.0; joins = is.1 }
+
+pub pieces-unique : (s : List ℕ) (ps : List (List ℕ)) → IsSplit s ps → ps ≡ pieces s
+pieces-unique s ps h = sym (pieces_only s ps (clean-all ps h.some h.clean, h.joins))

@@ -1,6 +1,6 @@
 -- The units of a byte string (Annex B): what stands behind each start code prefix, and where.
-use Rattle.std.specs.Prelude.{ℕ, ◌+◌, Bool, true, false, cond, ◌==◌, ◌&&◌, ◌||◌, not, List, [], ◌∷◌, ◌++◌, length, drop, Option}
-use Rattle.std.specs.List.{list_all, position_from}
+use Rattle.std.specs.Prelude.{◌≡◌, ℕ, ◌+◌, ◌<◌, Bool, true, false, cond, ◌==◌, ◌&&◌, ◌||◌, not, List, [], ◌∷◌, ◌++◌, length, drop, Option}
+use Rattle.std.specs.List.{All, list_all, position_from}
 
 -- the start code prefix, 00 00 01 (Annex B, start_code_prefix_one_3bytes)
 abbrev pub start_code : List ℕ
@@ -22,8 +22,6 @@ lead a (p ∷ ps) = (a ∷ p) ∷ ps
 
 -- the pieces of a string (Annex B): what stands before its first start code prefix, and what stands
 -- behind each one up to the next or the end. There is one piece more than there are prefixes.
--- By law: the pieces are the one list of strings without a start code prefix that, joined by start
--- code prefixes, gives the string.
 unfoldable pub pieces : List ℕ → List (List ℕ)
 pieces (a ∷ b ∷ c ∷ s) = elim (is_code a b c) [ true ↦ [] ∷ pieces s | false ↦ lead a (pieces (b ∷ c ∷ s)) ]
 pieces s = s ∷ []
@@ -33,6 +31,13 @@ unfoldable pub joined : List (List ℕ) → List ℕ
 joined [] = []
 joined (p ∷ []) = p
 joined (p ∷ q ∷ ps) = p ++ (start_code ++ joined (q ∷ ps))
+
+-- ps is a split of s at start code prefixes: one piece or more, no prefix within a piece, and joined by
+-- prefixes they give s. By law this holds of the pieces of s, and of no other list.
+pub record IsSplit (s : List ℕ) (ps : List (List ℕ)) : Type 0 where
+  pub some : 0 < length ps
+  pub clean : All (λ p. has_code p ≡ false) ps
+  pub joins : joined ps ≡ s
 
 -- whether a byte is zero, and whether all bytes of a string are
 abbrev pub is_zero : ℕ → Bool

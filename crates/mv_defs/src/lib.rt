@@ -3,5 +3,6 @@
 #![tactic(auto)]
 
 pub mod head;
+pub mod laws;
 
 pub use head::UnitHead;
