@@ -4,11 +4,15 @@
 //! be the end's own. There are ends over memory, for tests, and over the standard streams.
 #![tactic(auto)]
 
+mod mem_sink;
+mod mem_source;
 mod refusal;
 mod rule;
 mod sink;
 mod source;
 
+pub use mem_sink::MemSink;
+pub use mem_source::MemSource;
 pub use refusal::{ReadFault, Refusal};
 pub use rule::Rule;
 pub use sink::{Sink, SinkFailed, write_all};
