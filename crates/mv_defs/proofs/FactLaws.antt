@@ -17,8 +17,8 @@ unfolding facts_behind
 facts_behind-append before [] vs = ap (λ b. facts_behind b vs) (sym (append-nil before))
 facts_behind-append before (u ∷ us) vs =
     ap (λ rest. fact before u ∷ rest)
-      (facts_behind-append (before ++ u ∷ []) us vs
-      ∙ ap (λ b. facts_behind (before ++ u ∷ []) us ++ facts_behind b vs) (append_assoc before (u ∷ []) us))
+    (facts_behind-append (before ++ u ∷ []) us vs
+    ∙ ap (λ b. facts_behind (before ++ u ∷ []) us ++ facts_behind b vs) (append_assoc before (u ∷ []) us))
 
 pub facts-append : (us vs : List NalUnit) → facts (us ++ vs) ≡ facts us ++ facts_behind us vs
 facts-append us vs = facts_behind-append [] us vs
@@ -41,7 +41,7 @@ unfolding facts_behind
 numbers_of before [] = refl
 numbers_of before (u ∷ us) =
     ap (λ rest. length before ∷ rest)
-      (numbers_of (before ++ u ∷ []) us ∙ ap (λ n. range_with_len n (length us)) (length-append before (u ∷ [])))
+    (numbers_of (before ++ u ∷ []) us ∙ ap (λ n. range_with_len n (length us)) (length-append before (u ∷ [])))
 
 pub facts-numbers : (us : List NalUnit) → map (λ (f : Fact). f.number) (facts us) ≡ range_with_len 0 (length us)
 facts-numbers us = numbers_of [] us

@@ -43,10 +43,12 @@ stands done last (c ∷ cs) p e [] clean = absurd clean
 stands done last (c ∷ cs) p e (q ∷ qs) clean =
     let at : ℕ = 0 + length c + 3 in
     let is = snoc (placed at cs) done _ last (sym (placed-append at cs (p ∷ [])) ∙ e) in
-    let next : NalUnit = record { place = span cs at; bytes = trimmed q } in
-    (next, placed (span cs at + length q + 3) qs,
+    let next : NalUnit = record { place = span cs at; bytes = trimmed q } in (
+      next,
+      placed (span cs at + length q + 3) qs,
       placed-append at cs (q ∷ qs) ∙ ap (λ us. us ++ next ∷ placed (span cs at + length q + 3) qs) is.0,
-      ap (λ (u : NalUnit). u.place) is.1)
+      ap (λ (u : NalUnit). u.place) is.1,
+    )
 
 -- the units that a start code closed stay units however the string goes on, and the last stays at its place
 pub units-stay : (s t : List ℕ) (done : List NalUnit) (last : NalUnit) → units s ≡ done ++ last ∷ [] → GoesOn done last.place (units (s ++ t))
@@ -122,8 +124,8 @@ two-stay a b (c ∷ t) i n h = go (is_zero a) (is_zero b) refl refl
     go false y was is = leading-first i a (b ∷ c ∷ t) was ∙ sym (leading-first i a (b ∷ []) was) ∙ h
     go true true was is = absurd (let none : None ≡ Some n = sym (nothing a b i was is) ∙ h in cc)
     go true false was is =
-      leading-byte i a b c t (isnt_second a b c is)
-      ∙ goes_on (not (is_zero a)) i n (leading_from (i + 1) (b ∷ [])) (leading_from (i + 1) (b ∷ c ∷ t)) (λ m e. last-stays b (c ∷ t) (i + 1) m e) h
+        leading-byte i a b c t (isnt_second a b c is)
+        ∙ goes_on (not (is_zero a)) i n (leading_from (i + 1) (b ∷ [])) (leading_from (i + 1) (b ∷ c ∷ t)) (λ m e. last-stays b (c ∷ t) (i + 1) m e) h
 
 -- a byte that is leading stays so in a longer string
 stays : (s t : List ℕ) (i n : ℕ) → leading_from i s ≡ Some n → leading_from i (s ++ t) ≡ Some n
@@ -135,10 +137,10 @@ stays (a ∷ b ∷ c ∷ s) t i n h = go (is_code a b c) refl (λ m. stays (b �
   where
     go : (z : Bool) → is_code a b c ≡ z → ((m : ℕ) → leading_from (i + 1) (b ∷ c ∷ s) ≡ Some m → leading_from (i + 1) (b ∷ c ∷ (s ++ t)) ≡ Some m) → leading_from i (a ∷ b ∷ c ∷ (s ++ t)) ≡ Some n
     go true is later =
-      let none : leading_from i (a ∷ b ∷ c ∷ s) ≡ None = ap (λ ps. position_from (λ x. not (is_zero x)) i (front_of ps)) (pieces-at a b c s is) in absurd (cc)
+        let none : leading_from i (a ∷ b ∷ c ∷ s) ≡ None = ap (λ ps. position_from (λ x. not (is_zero x)) i (front_of ps)) (pieces-at a b c s is) in absurd (cc)
     go false isnt later =
-      leading-byte i a b c (s ++ t) isnt
-      ∙ goes_on (not (is_zero a)) i n (leading_from (i + 1) (b ∷ c ∷ s)) (leading_from (i + 1) (b ∷ c ∷ (s ++ t))) later (sym (leading-byte i a b c s isnt) ∙ h)
+        leading-byte i a b c (s ++ t) isnt
+        ∙ goes_on (not (is_zero a)) i n (leading_from (i + 1) (b ∷ c ∷ s)) (leading_from (i + 1) (b ∷ c ∷ (s ++ t))) later (sym (leading-byte i a b c s isnt) ∙ h)
 
 pub leading-stays : (s t : List ℕ) (n : ℕ) → leading s ≡ Some n → leading (s ++ t) ≡ Some n
 leading-stays s t n h = stays s t 0 n h

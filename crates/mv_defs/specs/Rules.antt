@@ -1,8 +1,9 @@
 -- The rules of refusal (this project's profile): one definition a rule, and the list of those that are tried.
-use Rattle.std.specs.Prelude.{ℕ, Bool, false, ◌==◌, ◌&&◌, ◌||◌, nat_lt, nat_le, List, [], ◌∷◌, length, take}
+use Rattle.std.specs.Prelude.{Result, Ok, Err, if◌then◌else◌, ℕ, Bool, false, ◌==◌, ◌&&◌, ◌||◌, nat_lt, nat_le, List, [], ◌∷◌, length, take}
 use Rattle.mv_io.specs.declared.rule.Rule.{Rule}
 use Rattle.mv_defs.specs.Facts.{Fact}
-use Rattle.mv_defs.specs.Head.{forbidden_zero_bit, nal_unit_type, nuh_temporal_id_plus1, temporal_id}
+use Rattle.mv_defs.specs.declared.head.UnitHead.{UnitHead}
+use Rattle.mv_defs.specs.Head.{head, forbidden_zero_bit, nal_unit_type, nuh_temporal_id_plus1, temporal_id}
 
 -- the greatest number of bytes of a unit, 2^24 (this project's profile)
 abbrev pub longest_unit : ℕ
@@ -55,3 +56,7 @@ breaks rule f = false
 -- the rules that are tried on each unit, in rising order of their numbers
 abbrev pub rules : List Rule
 rules = Rule.Short ∷ Rule.Head ∷ []
+
+-- the head of a unit, or the least of the rules Short and Head that holds for it
+abbrev pub checked_head : List ℕ → Result UnitHead Rule
+checked_head u = if short_unit u then Err Rule.Short else (if bad_head u then Err Rule.Head else Ok (head u))
