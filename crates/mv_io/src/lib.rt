@@ -4,12 +4,16 @@
 //! be the end's own. There are ends over memory, for tests, and over the standard streams.
 #![tactic(auto)]
 
+mod buffer;
+mod end;
 mod mem_sink;
 mod mem_source;
 mod refusal;
 mod rule;
 mod sink;
 mod source;
+mod std_sink;
+mod std_source;
 
 pub use mem_sink::MemSink;
 pub use mem_source::MemSource;
@@ -17,3 +21,5 @@ pub use refusal::{ReadFault, Refusal};
 pub use rule::Rule;
 pub use sink::{Sink, SinkFailed, write_all};
 pub use source::{Source, SourceFailed};
+pub use std_sink::StdSink;
+pub use std_source::StdSource;

@@ -150,7 +150,7 @@ pub enum Rule {
 }
 
 impl Rule {
-    ghost use Rattle.mv_io.specs.Rule.{rule_number};
+    ghost use Rattle.mv_io.specs.Rule.{rule_number, rule_word};
 
     /// The rule's number, from 1 to 73, by which the program names it beside its name.
     pub fn number(&self) -> u8
@@ -223,9 +223,80 @@ impl Rule {
             Rule::NoPicture => 73,
         }
     }
+    /// The rule's name alone, without the output layer set of `Reorder`.
+    pub fn name(&self) -> &'static str
+        ensures name { result.now ≡ rule_word self.now }
+    {
+        match self {
+            Rule::Leading => "Leading",
+            Rule::Short => "Short",
+            Rule::Emulation => "Emulation",
+            Rule::Long => "Long",
+            Rule::Head => "Head",
+            Rule::VpsSyntax => "VpsSyntax",
+            Rule::ExternalBase => "ExternalBase",
+            Rule::Splitting => "Splitting",
+            Rule::Depth => "Depth",
+            Rule::Spatial => "Spatial",
+            Rule::Auxiliary => "Auxiliary",
+            Rule::ReservedDimension => "ReservedDimension",
+            Rule::NoViewDimension => "NoViewDimension",
+            Rule::SameView => "SameView",
+            Rule::AddedLayerSets => "AddedLayerSets",
+            Rule::AltOutput => "AltOutput",
+            Rule::LayerSetBase => "LayerSetBase",
+            Rule::LayerSetClosure => "LayerSetClosure",
+            Rule::LayerSetUnknown => "LayerSetUnknown",
+            Rule::ReservedOutput => "ReservedOutput",
+            Rule::DependencyType => "DependencyType",
+            Rule::VpsLimit => "VpsLimit",
+            Rule::VpsChanged => "VpsChanged",
+            Rule::VpsTid => "VpsTid",
+            Rule::NoVps => "NoVps",
+            Rule::SpsSyntax => "SpsSyntax",
+            Rule::SpsRange => "SpsRange",
+            Rule::Sps3d => "Sps3d",
+            Rule::SpsScc => "SpsScc",
+            Rule::ColourPlanes => "ColourPlanes",
+            Rule::SpsTid => "SpsTid",
+            Rule::SpsLimit => "SpsLimit",
+            Rule::PpsSyntax => "PpsSyntax",
+            Rule::PpsRange => "PpsRange",
+            Rule::Pps3d => "Pps3d",
+            Rule::PpsScc => "PpsScc",
+            Rule::PocReset => "PocReset",
+            Rule::LocationOffsets => "LocationOffsets",
+            Rule::ColourMapping => "ColourMapping",
+            Rule::PpsLimit => "PpsLimit",
+            Rule::MissingPps => "MissingPps",
+            Rule::MissingSps => "MissingSps",
+            Rule::SliceSyntax => "SliceSyntax",
+            Rule::CrossLayerBla => "CrossLayerBla",
+            Rule::NoBase => "NoBase",
+            Rule::LayerOrder => "LayerOrder",
+            Rule::OrphanSlice => "OrphanSlice",
+            Rule::SliceDiffers => "SliceDiffers",
+            Rule::AddressOrder => "AddressOrder",
+            Rule::TidDiffers => "TidDiffers",
+            Rule::NoIrap => "NoIrap",
+            Rule::SpsChanged => "SpsChanged",
+            Rule::FormatDiffers => "FormatDiffers",
+            Rule::PocRange => "PocRange",
+            Rule::PocMismatch => "PocMismatch",
+            Rule::IrapRefers => "IrapRefers",
+            Rule::TooManyRefs => "TooManyRefs",
+            Rule::MissingRef => "MissingRef",
+            Rule::MissingInterLayer => "MissingInterLayer",
+            Rule::ListEntry => "ListEntry",
+            Rule::NoRefs => "NoRefs",
+            Rule::Collocated => "Collocated",
+            Rule::Reorder(_) => "Reorder",
+            Rule::NoPicture => "NoPicture",
+        }
+    }
 }
 
-/// Writes the rule's name, and for `Reorder` its output layer set, as `Reorder(1)`.
+/// Writes the rule's name, and behind that of `Reorder` its output layer set, as `Reorder(1)`.
 impl fmt::Display for Rule {
     ghost use Rattle.std.specs.Prelude.{Some};
     ghost use Rattle.mv_io.specs.Rule.{rule_name};
@@ -234,70 +305,8 @@ impl fmt::Display for Rule {
 
     fn fmt<W: fmt::Write>(&self, f: &mut fmt::Formatter<W>) -> fmt::Result {
         match self {
-            Rule::Leading => f.write_str("Leading"),
-            Rule::Short => f.write_str("Short"),
-            Rule::Emulation => f.write_str("Emulation"),
-            Rule::Long => f.write_str("Long"),
-            Rule::Head => f.write_str("Head"),
-            Rule::VpsSyntax => f.write_str("VpsSyntax"),
-            Rule::ExternalBase => f.write_str("ExternalBase"),
-            Rule::Splitting => f.write_str("Splitting"),
-            Rule::Depth => f.write_str("Depth"),
-            Rule::Spatial => f.write_str("Spatial"),
-            Rule::Auxiliary => f.write_str("Auxiliary"),
-            Rule::ReservedDimension => f.write_str("ReservedDimension"),
-            Rule::NoViewDimension => f.write_str("NoViewDimension"),
-            Rule::SameView => f.write_str("SameView"),
-            Rule::AddedLayerSets => f.write_str("AddedLayerSets"),
-            Rule::AltOutput => f.write_str("AltOutput"),
-            Rule::LayerSetBase => f.write_str("LayerSetBase"),
-            Rule::LayerSetClosure => f.write_str("LayerSetClosure"),
-            Rule::LayerSetUnknown => f.write_str("LayerSetUnknown"),
-            Rule::ReservedOutput => f.write_str("ReservedOutput"),
-            Rule::DependencyType => f.write_str("DependencyType"),
-            Rule::VpsLimit => f.write_str("VpsLimit"),
-            Rule::VpsChanged => f.write_str("VpsChanged"),
-            Rule::VpsTid => f.write_str("VpsTid"),
-            Rule::NoVps => f.write_str("NoVps"),
-            Rule::SpsSyntax => f.write_str("SpsSyntax"),
-            Rule::SpsRange => f.write_str("SpsRange"),
-            Rule::Sps3d => f.write_str("Sps3d"),
-            Rule::SpsScc => f.write_str("SpsScc"),
-            Rule::ColourPlanes => f.write_str("ColourPlanes"),
-            Rule::SpsTid => f.write_str("SpsTid"),
-            Rule::SpsLimit => f.write_str("SpsLimit"),
-            Rule::PpsSyntax => f.write_str("PpsSyntax"),
-            Rule::PpsRange => f.write_str("PpsRange"),
-            Rule::Pps3d => f.write_str("Pps3d"),
-            Rule::PpsScc => f.write_str("PpsScc"),
-            Rule::PocReset => f.write_str("PocReset"),
-            Rule::LocationOffsets => f.write_str("LocationOffsets"),
-            Rule::ColourMapping => f.write_str("ColourMapping"),
-            Rule::PpsLimit => f.write_str("PpsLimit"),
-            Rule::MissingPps => f.write_str("MissingPps"),
-            Rule::MissingSps => f.write_str("MissingSps"),
-            Rule::SliceSyntax => f.write_str("SliceSyntax"),
-            Rule::CrossLayerBla => f.write_str("CrossLayerBla"),
-            Rule::NoBase => f.write_str("NoBase"),
-            Rule::LayerOrder => f.write_str("LayerOrder"),
-            Rule::OrphanSlice => f.write_str("OrphanSlice"),
-            Rule::SliceDiffers => f.write_str("SliceDiffers"),
-            Rule::AddressOrder => f.write_str("AddressOrder"),
-            Rule::TidDiffers => f.write_str("TidDiffers"),
-            Rule::NoIrap => f.write_str("NoIrap"),
-            Rule::SpsChanged => f.write_str("SpsChanged"),
-            Rule::FormatDiffers => f.write_str("FormatDiffers"),
-            Rule::PocRange => f.write_str("PocRange"),
-            Rule::PocMismatch => f.write_str("PocMismatch"),
-            Rule::IrapRefers => f.write_str("IrapRefers"),
-            Rule::TooManyRefs => f.write_str("TooManyRefs"),
-            Rule::MissingRef => f.write_str("MissingRef"),
-            Rule::MissingInterLayer => f.write_str("MissingInterLayer"),
-            Rule::ListEntry => f.write_str("ListEntry"),
-            Rule::NoRefs => f.write_str("NoRefs"),
-            Rule::Collocated => f.write_str("Collocated"),
             Rule::Reorder(set) => write!(f, "Reorder({set})"),
-            Rule::NoPicture => f.write_str("NoPicture"),
+            _ => f.write_str(self.name()),
         }
     }
 }
