@@ -1,5 +1,6 @@
 -- What reading the whole input into memory gives.
-use Rattle.std.specs.Prelude.{ℕ, ◌≡◌, ◌≤◌, ◌==◌, true, false, List, [], ◌∷◌, ◌++◌, length, Result, Ok, Err, Vec}
+use Rattle.std.specs.Prelude.{ℕ, ◌≡◌, ◌≤◌, ◌==◌, true, false, List, [], ◌∷◌, ◌++◌, length, Result, Ok, Err, ⊤}
+use Rattle.std.specs.Global.{Vec}
 use Rattle.mv_extract.specs.declared.error.ExtractError.{ExtractError}
 use Rattle.mv_extract.specs.declared.error.ExtractError.TheVariants.{Refused, Read, Write, TooLong, Memory}
 use Rattle.mv_extract.specs.Call.{Input, InputRose, Took}
@@ -47,3 +48,12 @@ Gains most input held now (Err Read) = ReadsSome 0 input × InputRose input
 Gains most input held now (Err Write) = ⊥
 Gains most input held now (Err TooLong) = ⊥
 Gains most input held now (Err Memory) = ReadsSome most input
+
+-- each answer of asking for one byte more
+abbrev pub EndsHere : Input → Result ⊤ ExtractError → Type 0
+EndsHere input (Ok _) = Took input [] true
+EndsHere input (Err (Refused _)) = ⊥
+EndsHere input (Err Read) = ReadsSome 0 input × InputRose input
+EndsHere input (Err Write) = ⊥
+EndsHere input (Err TooLong) = (extra : ℕ) × Took input (extra ∷ []) false
+EndsHere input (Err Memory) = ⊥

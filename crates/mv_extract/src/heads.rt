@@ -57,6 +57,7 @@ pub fn extract_heads<S: Source, K: Sink>(
 }
 
 // Tries the rules on each unit, in order, and writes those of layer 0.
+#[tactic(none)]
 fn write_kept<K: Sink>(bytes: &[u8], spans: &[Span], sink: &mut K) -> Result<(), ExtractError>
     requires units { map (unit_at bytes.now) spans.now ≡ units bytes.now }
     requires inside { All (LiesIn bytes.now) spans.now }

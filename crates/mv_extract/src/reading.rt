@@ -3,7 +3,7 @@
 
 ghost use Rattle.std.specs.Prelude.{◌≡◌, ◌<◌, ◌≤◌, length};
 ghost use Rattle.mv_extract.specs.Call.{input_of};
-ghost use Rattle.mv_extract.specs.Reading.{Reads, Gains};
+ghost use Rattle.mv_extract.specs.Reading.{EndsHere, Gains, Reads};
 
 use crate::error::ExtractError;
 use mv_io::Source;
@@ -39,10 +39,9 @@ pub fn read_within<S: Source>(alloc: Global, source: &mut S, limit: u64) -> Resu
             Err(error) => return Err(error),
         }
     }
-    match source.read(&mut piece[..1]) {
-        Ok(0) => Ok(bytes),
-        Ok(_) => Err(ExtractError::TooLong),
-        Err(_) => Err(ExtractError::Read),
+    match no_more(source) {
+        Ok(()) => Ok(bytes),
+        Err(error) => Err(error),
     }
 }
 
@@ -59,6 +58,21 @@ fn read_piece<S: Source>(source: &mut S, piece: &mut [u8], bytes: &mut Vec<u8>) 
             Ok(()) => Ok(count),
             Err(_) => Err(ExtractError::Memory),
         },
+        Err(_) => Err(ExtractError::Read),
+    }
+}
+
+// Asks for one byte more, and is told that there is none.
+fn no_more<S: Source>(source: &mut S) -> Result<(), ExtractError>
+    ensures ends { EndsHere
+        (input_of (S.told source.old) (S.told source.new) (S.faults source.old) (S.faults source.new))
+        result }
+    ensures source_count { S.faults source.old ≤ S.faults source.new }
+{
+    let mut more = [0];
+    match source.read(&mut more) {
+        Ok(0) => Ok(()),
+        Ok(_) => Err(ExtractError::TooLong),
         Err(_) => Err(ExtractError::Read),
     }
 }
