@@ -5,6 +5,8 @@
 mod framing;
 mod heads;
 mod splitting;
+#[cfg(test)]
+mod tests;
 
 pub use framing::frame;
 pub use heads::read_head;

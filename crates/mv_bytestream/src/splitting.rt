@@ -1,8 +1,9 @@
 //! A byte string split into its units.
 #![tactic(auto)]
 
-ghost use Rattle.std.specs.Prelude.{◌≡◌, ◌≤◌, None, All, false, map, length, drop, slice_range, IfOk, OnOk, IfErr};
-ghost use Rattle.mv_defs.specs.Units.{has_code, leading, trimmed, units, units_at};
+ghost use Rattle.std.specs.Prelude.{◌≡◌, ◌<◌, ◌≤◌, None, All, false, not, map, length, drop, slice_range, IfOk, OnOk, IfErr, IfSome};
+ghost use Rattle.std.specs.List.{position_from};
+ghost use Rattle.mv_defs.specs.Units.{has_code, is_zero, leading, trimmed, units, units_at};
 ghost use Rattle.mv_bytestream.specs.Spans.{CodeOrEnd, LiesIn, RefusesLeading, unit_at};
 
 use memchr::memmem;
@@ -46,7 +47,7 @@ pub fn split(alloc: Global, bytes: &[u8]) -> Result<Vec<Span>, ScanFault>
     ensures refused { IfErr result (RefusesLeading bytes.now) }
 {
     let front = next_code(bytes, 0);
-    match bytes[..front].iter().position(|byte| *byte != 0) {
+    match first_nonzero(&bytes[..front]) {
         Some(at) => Err(ScanFault::Refused(Refusal {
             unit: 0,
             byte: at as u64,
@@ -54,6 +55,14 @@ pub fn split(alloc: Global, bytes: &[u8]) -> Result<Vec<Span>, ScanFault>
         })),
         None => spans_from(alloc, bytes, front),
     }
+}
+
+// The offset of the first byte other than zero.
+fn first_nonzero(bytes: &[u8]) -> Option<usize>
+    ensures value { result ≡ position_from (λ b. not (is_zero b)) 0 bytes.now }
+    ensures inside { IfSome result (λ at. at < length bytes.now) }
+{
+    bytes.iter().position(|byte| *byte != 0)
 }
 
 // The spans of the units that follow `front`, where a start code prefix or the end stands.
