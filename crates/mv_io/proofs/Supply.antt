@@ -1,9 +1,8 @@
 -- One read of a source over memory tells what it gave.
-use Rattle.std.proofs.Common.{ℕ, Some, ◌≡◌, ◌+◌, ◌<◌, ◌≤◌, ◌==◌, ◌||◌, unwrap_or, slice_get, Bool, true, false, List, [], ◌++◌, take, drop, length, min, if◌then◌else◌, arith, ap, sym, ◌∙◌, Ok, Result, rules}
+use Rattle.std.proofs.Common.{ℕ, Some, ◌≡◌, ◌<◌, ◌≤◌, ◌==◌, ◌||◌, unwrap_or, slice_get, Bool, List, [], ◌++◌, take, drop, length, min, if◌then◌else◌, arith, sym, ◌∙◌, Ok}
 use Rattle.std.proofs.lemmas.List.{take-append-drop, take_at, length-take-le, nil_from_length}
-use Rattle.std.proofs.lemmas.Grind.{common_steps}
 use Rattle.mv_io.specs.Source.{ReadTells}
-use Rattle.mv_io.specs.MemSource.{Supply, supply_gives, supply_told, piece_size}
+use Rattle.mv_io.specs.MemSource.{Supply, supply_gives, supply_told}
 
 -- a read that has room gives something of what is left
 size-above_zero : (size room : ℕ) → 0 < room → 0 < (if size == 0 then room else min size room)
@@ -14,7 +13,6 @@ pub gives_nothing : (s : Supply) (room : ℕ) → 0 < room → supply_gives s ro
 gives_nothing s room some none =
     let above = size-above_zero (unwrap_or (slice_get s.pieces s.number) 0) room some in
     nil_from_length s.left (grind (arith, above, none))
-
 
 -- what a read does to the buffer and to the source is what ReadTells asks
 pub supply_tells : {E : Type 0} (old : Supply) (left : List ℕ) (ended : Bool) (before into : List ℕ) (n : ℕ)
@@ -27,8 +25,8 @@ supply_tells old left ended before into n room count filled rest end =
     record {
       gives = rw (rest, filled, front) (sym (take-append-drop n old.left));
       ends = λ nothing.
-        let none : n ≡ 0 = grind arith in
-        (gives_nothing old (length before) room (sym count ∙ none), grind arith);
+          let none : n ≡ 0 = grind arith in
+          (gives_nothing old (length before) room (sym count ∙ none), grind arith);
       goes_on = λ some. grind arith;
-      fails = tt
+      fails = tt;
     }

@@ -1,5 +1,5 @@
 -- A source over memory: what it still gives, and which of its reads give how much or fail.
-use Rattle.std.specs.Prelude.{ℕ, ◌+◌, Bool, Option, Some, List, length, min, slice_get, unwrap_or, ◌==◌, if◌then◌else◌}
+use Rattle.std.specs.Prelude.{ℕ, Bool, Option, Some, List, length, min, slice_get, unwrap_or, ◌==◌, if◌then◌else◌}
 use Rattle.mv_io.specs.Source.{Told}
 
 -- a source over memory, as its callers see it

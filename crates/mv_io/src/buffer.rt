@@ -52,8 +52,9 @@ impl Buffer {
     pub fn push(&mut self, piece: &[u8])
         requires { length piece.now ≤ self.old.room }
         ensures pushed { self.new ≡ record {
-            waiting = self.old.waiting ++ piece.now;
-            room = self.old.room - length piece.now } }
+          waiting = self.old.waiting ++ piece.now;
+          room = self.old.room - length piece.now;
+        } }
     {
         let end = self.end + piece.len();
         self.bytes[self.end..end].copy_from_slice(piece);

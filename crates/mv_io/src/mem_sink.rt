@@ -24,11 +24,12 @@ impl Model for MemSink {
     ghost Value = { Store };
 
     ghost view = { λ s. record {
-        bytes = s.bytes.items;
-        capacity = s.capacity;
-        failing = s.failing.items;
-        number = s.number;
-        faults = s.faults } };
+      bytes = s.bytes.items;
+      capacity = s.capacity;
+      failing = s.failing.items;
+      number = s.number;
+      faults = s.faults;
+    } };
 
     // The room for all that it takes is there from the start.
     ghost invariant = { λ s. (vec_len s.bytes ≤ s.capacity) × (s.capacity ≤ vec_capacity s.bytes) };
@@ -43,11 +44,12 @@ impl MemSink {
     /// `AllocError` where the allocator refuses memory for the capacity or the copy of the list.
     pub fn new(alloc: Global, capacity: usize, failing: &[u64]) -> Result<MemSink, AllocError>
         ensures made { IfOk result (λ sink. sink ≡ record {
-            bytes = [];
-            capacity = capacity;
-            failing = failing.now;
-            number = 0;
-            faults = 0 }) }
+          bytes = [];
+          capacity = capacity;
+          failing = failing.now;
+          number = 0;
+          faults = 0;
+        }) }
     {
         let bytes = Vec::with_capacity(alloc, capacity)?;
         let failing = failing.to_vec(alloc)?;
@@ -82,14 +84,16 @@ impl Sink for MemSink {
         // Which write fails, and what it leaves.
         ensures fails { IsErr result ↔ Refuses self.old (length piece.now) }
         ensures failed { OnErr result (self.new ≡ record self.old {
-            number = raised self.old.number;
-            faults = raised self.old.faults }) }
+          number = raised self.old.number;
+          faults = raised self.old.faults;
+        }) }
 
         // The others take the whole piece.
         ensures whole { IfOk result (λ n. n ≡ length piece.now) }
         ensures stored { OnOk result (self.new ≡ record self.old {
-            bytes = self.old.bytes ++ piece.now;
-            number = raised self.old.number }) }
+          bytes = self.old.bytes ++ piece.now;
+          number = raised self.old.number;
+        }) }
     {
         let number = self.number;
         self.number = number.saturating_add(1);

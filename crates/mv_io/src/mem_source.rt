@@ -26,12 +26,13 @@ impl Model for MemSource {
     ghost Value = { Supply };
 
     ghost view = { λ s. record {
-        left = drop s.at s.bytes.items;
-        ended = s.ended;
-        pieces = s.pieces.items;
-        failing = s.failing.items;
-        number = s.number;
-        faults = s.faults } };
+      left = drop s.at s.bytes.items;
+      ended = s.ended;
+      pieces = s.pieces.items;
+      failing = s.failing.items;
+      number = s.number;
+      faults = s.faults;
+    } };
 
     ghost invariant = { λ s. s.at ≤ vec_len s.bytes };
 }
@@ -50,12 +51,13 @@ impl MemSource {
         failing: &[u64],
     ) -> Result<MemSource, AllocError>
         ensures made { IfOk result (λ source. source ≡ record {
-            left = bytes.now;
-            ended = false;
-            pieces = pieces.now;
-            failing = failing.now;
-            number = 0;
-            faults = 0 }) }
+          left = bytes.now;
+          ended = false;
+          pieces = pieces.now;
+          failing = failing.now;
+          number = 0;
+          faults = 0;
+        }) }
     {
         let bytes = bytes.to_vec(alloc)?;
         let pieces = pieces.to_vec(alloc)?;
@@ -86,17 +88,19 @@ impl Source for MemSource {
         // Which read fails, and what it leaves.
         ensures fails { IsErr result ↔ Contains self.old.failing self.old.number }
         ensures failed { OnErr result (self.new ≡ record self.old {
-            number = raised self.old.number;
-            faults = raised self.old.faults }) }
+          number = raised self.old.number;
+          faults = raised self.old.faults;
+        }) }
         ensures untouched { OnErr result (into.new ≡ into.old) }
 
         // How much the others give, and what they leave.
         ensures gives { IfOk result (λ n. n ≡ supply_gives self.old (length into.old)) }
         ensures filled { IfOk result (λ n. into.new ≡ take n self.old.left ++ drop n into.old) }
         ensures given { IfOk result (λ n. self.new ≡ record self.old {
-            left = drop n self.old.left;
-            ended = self.old.ended || (n == 0);
-            number = raised self.old.number }) }
+          left = drop n self.old.left;
+          ended = self.old.ended || (n == 0);
+          number = raised self.old.number;
+        }) }
     {
         let number = self.number;
         self.number = number.saturating_add(1);

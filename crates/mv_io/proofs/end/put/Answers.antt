@@ -1,4 +1,4 @@
-use Rattle.std.proofs.Common.{ℕ, ◌≡◌, Option, None, Some, List, [], ◌++◌, drop, length, IfNone, arith, refl, inl, inr}
+use Rattle.std.proofs.Common.{ℕ, ◌≡◌, Option, None, Some, List, [], drop, length, IfNone, arith, refl, inl, inr}
 use Rattle.std.proofs.lemmas.Option.{IfSome_then}
 use Rattle.std.proofs.Math.ListN.{drop_of_length-le}
 use Rattle.mv_io.specs.Buffer.{WaitsOn}

@@ -1,4 +1,4 @@
-use Rattle.std.proofs.Common.{ℕ, ◌≡◌, ◌+◌, ◌-◌, ◌≤◌, List, ◌++◌, take, drop, length, arith, refl}
+use Rattle.std.proofs.Common.{ℕ, ◌≡◌, ◌+◌, ◌≤◌, List, ◌++◌, take, drop, length, arith, refl}
 use Rattle.std.proofs.lemmas.List.{drop-append-le, length-take-le}
 use Rattle.std.proofs.lemmas.Slice.{take-put_mid}
 use borrow.Rule.Slice.PartMut.{put_mid}
@@ -20,6 +20,6 @@ returns c =
     rw (← c.self.view_is, c.copy_from_slice.ensures.after)
     record {
       pushed = same_queue
-        (waiting-push c.self.inside.bytes c.args.piece.now c.self.inside.start c.self.inside.end _ c.self.invariant.0 within)
-        (omega arith)
+          (waiting-push c.self.inside.bytes c.args.piece.now c.self.inside.start c.self.inside.end _ c.self.invariant.0 within)
+          (omega arith);
     }
