@@ -25,6 +25,7 @@ use std::alloc::Global;
 /// `Write` only where that end's count of faults rose in this call: nothing was written, or the first bytes
 /// of the text. `TooLong` exactly where `limit` bytes were taken and the source gave another: nothing was
 /// written. `Memory` where the allocator refused memory.
+#[tactic(none)]
 pub fn extract_heads<S: Source, K: Sink>(
     alloc: Global,
     source: &mut S,
@@ -57,7 +58,6 @@ pub fn extract_heads<S: Source, K: Sink>(
 }
 
 // Tries the rules on each unit, in order, and writes those of layer 0.
-#[tactic(none)]
 fn write_kept<K: Sink>(bytes: &[u8], spans: &[Span], sink: &mut K) -> Result<(), ExtractError>
     requires units { map (unit_at bytes.now) spans.now ≡ units bytes.now }
     requires inside { All (LiesIn bytes.now) spans.now }
