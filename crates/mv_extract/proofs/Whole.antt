@@ -1,5 +1,6 @@
 -- The answers of extraction, from what reading, splitting and writing gave.
-use Rattle.std.proofs.Common.{◌≡◌, ℕ, ◌+◌, ◌<◌, ◌≤◌, ◌⊎◌, inl, inr, Bool, true, false, nat_lt, List, [], ◌∷◌, ◌++◌, take, length, Option, None, Some, Result, Ok, Err, refl, ap, sym, ◌∙◌, subst, arith, IfSome, ⊤, append-nil, length-append, if◌then◌else◌}
+use Rattle.std.proofs.Common.{◌≡◌, ℕ, ◌+◌, ◌<◌, ◌≤◌, ◌⊎◌, inl, inr, Bool, true, false, nat_lt, List, [], ◌∷◌, ◌++◌, take, length, Option, None, Some, Result, Ok, Err, refl, ap, sym, ◌∙◌, subst, arith, IfSome, append-nil, length-append, if◌then◌else◌}
+use Rattle.std.specs.Prelude.{⊤, IsSomeAnd}
 use Rattle.std.proofs.lemmas.Bool.{le-ltb, lt-ltb}
 use Rattle.mv_io.specs.declared.refusal.Refusal.{Refusal}
 use Rattle.mv_io.specs.Faults.{Rose}
@@ -7,6 +8,8 @@ use Rattle.mv_io.specs.Sink.{Appends, AppendsPrefix}
 use Rattle.mv_io.specs.Source.{Told, Takes}
 use Rattle.mv_io.proofs.Appends.{Appends-nothing}
 use Rattle.mv_defs.specs.Units.{units, leading}
+use Rattle.mv_defs.specs.Extract.{extract}
+use Rattle.mv_defs.specs.Framing.{frame}
 use Rattle.mv_defs.specs.Verdict.{verdict, verdict_of, refused_leading}
 use Rattle.mv_bytestream.specs.declared.splitting.ScanFault.TheVariants.{Refused as ScanRefused}
 use Rattle.mv_bytestream.specs.Spans.{RefusesLeading}
@@ -58,11 +61,11 @@ splitting-ended limit input taken f bytes all = record {
   }
 
 -- a leading byte was refused
-leading_refused : (o : Option ℕ) (v : Option Refusal) (refusal : Refusal) → (elim o as (λ x. Type 0) [ None ↦ ⊥ | Some at ↦ refusal ≡ refused_leading at ]) → (elim o as (λ x. Option Refusal) [ Some at ↦ Some (refused_leading at) | None ↦ v ]) ≡ Some refusal
+leading_refused : (o : Option ℕ) (v : Option Refusal) (refusal : Refusal) → IsSomeAnd o (λ at. refusal ≡ refused_leading at) → (elim o as (λ x. Option Refusal) [ Some at ↦ Some (refused_leading at) | None ↦ v ]) ≡ Some refusal
 leading_refused None v refusal h = absurd h
 leading_refused (Some at) v refusal h = ap Some (sym h)
 
-leading_unit : (o : Option ℕ) (refusal : Refusal) → (elim o as (λ x. Type 0) [ None ↦ ⊥ | Some at ↦ refusal ≡ refused_leading at ]) → refusal.unit ≡ 0
+leading_unit : (o : Option ℕ) (refusal : Refusal) → IsSomeAnd o (λ at. refusal ≡ refused_leading at) → refusal.unit ≡ 0
 leading_unit None refusal h = absurd h
 leading_unit (Some at) refusal h = ap (λ (r : Refusal). r.unit) h
 
@@ -72,8 +75,8 @@ leading-refused limit input taken f bytes refusal all refuses = record {
     ended = true;
     took = all.took;
     within = all.within;
-    shows = (refl, leading_refused (leading bytes) (verdict (units bytes)) refusal ?);
-    writes = rw (leading_unit (leading bytes) refusal ?) (written-nothing taken);
+    shows = (refl, leading_refused (leading bytes) (verdict (units bytes)) refusal refuses);
+    writes = subst (λ n. Appends taken taken (frame (extract (take n (units bytes))))) (sym (leading_unit (leading bytes) refusal refuses)) (written-nothing taken);
   }
 
 -- the whole input was read, and its units were tried
@@ -127,7 +130,7 @@ decided limit (Some was) (Some is) bytes v takes ends within e =
     ∙ ap (λ b. if b then Err TooLong else answer_by (verdict_of bytes)) (fits limit (length bytes) within)
     ∙ ap answer_by e))
 
-too_many : (limit : ℕ) (old new : Option Told) (taken : List ℕ) (extra : ℕ) → Takes old new (taken ++ extra ∷ []) → length taken ≡ limit → IfSome old (λ was. (Err TooLong ≡ due limit was.left) ⊎ (Err TooLong ≡ Err Memory))
+too_many : (limit : ℕ) (old new : Option Told) (taken : List ℕ) (extra : ℕ) → Takes old new (taken ++ extra ∷ []) → length taken ≡ limit → IfSome old (λ was. (let answer : Result ⊤ ExtractError = Err TooLong in answer ≡ due limit was.left) ⊎ (let answer : Result ⊤ ExtractError = Err TooLong in answer ≡ Err Memory))
 too_many limit None new taken extra takes full = tt
 too_many limit (Some was) None taken extra takes full = absurd takes
 too_many limit (Some was) (Some is) taken extra takes full =

@@ -25,7 +25,6 @@ use std::alloc::Global;
 /// `Write` only where that end's count of faults rose in this call: nothing was written, or the first bytes
 /// of the text. `TooLong` exactly where `limit` bytes were taken and the source gave another: nothing was
 /// written. `Memory` where the allocator refused memory.
-#[tactic(none)]
 pub fn extract_heads<S: Source, K: Sink>(
     alloc: Global,
     source: &mut S,
