@@ -2,7 +2,7 @@ ghost use Rattle.std.specs.Prelude.{◌≡◌, ◌≤◌, ◌-◌, [], ◌++◌,
 
 use std::marker::Model;
 
-/// How many bytes the buffer holds.
+// How many bytes a buffer holds.
 pub const BUFFER_LEN: usize = 65536;
 
 // Bytes that wait for the standard output, which are `bytes[start..end]`. The buffer is a part of the end

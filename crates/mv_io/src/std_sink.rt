@@ -12,9 +12,10 @@ use std::marker::Model;
 /// The standard output or error. Contracts know nothing of the bytes that reach the system. The count of
 /// faults rises at each write that the system fails, or of which it takes no byte.
 ///
-/// The standard output keeps up to `BUFFER_LEN` bytes back, in a buffer that is a part of this value, and
-/// hands them on when no more fit, at `flush`, and when the value is dropped. A longer piece goes past the
-/// buffer. Call `flush` before the end: a drop can't tell that a write failed.
+/// The standard output keeps up to 65,536 bytes back, in a buffer that is a part of this value and takes no
+/// memory besides. It hands them on when a piece no longer fits, at `flush`, and when the value is dropped.
+/// A piece that is longer than the buffer goes past it. Call `flush` before the end of the program: a drop
+/// can't tell that a write failed.
 pub struct StdSink<R: Print + Eprint + Drop> {
     rt: R,
     end: End,
