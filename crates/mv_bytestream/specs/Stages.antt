@@ -1,8 +1,10 @@
 -- A scanner's stage, and what it is to its callers there.
-use Rattle.std.specs.Prelude.{ℕ, Bool, true, false, List, [], Option, None, Some}
+use Rattle.std.specs.Prelude.{◌≡◌, ℕ, ◌+◌, ◌≤◌, min, Bool, true, false, List, [], ◌++◌, Option, None, Some, MatchOption, ⊤, vec_len, vec_capacity}
 use Rattle.mv_io.specs.declared.refusal.Refusal.{Refusal}
 use Rattle.mv_defs.specs.Units.{NalUnit}
-use Rattle.mv_bytestream.specs.Scan.{Scan}
+use Rattle.mv_defs.specs.Rules.{longest_unit, unit_rules}
+use Rattle.mv_defs.specs.Event.{refusal_shown}
+use Rattle.mv_bytestream.specs.Scan.{Scan, StandsFor}
 use Rattle.mv_bytestream.specs.declared.machine.Machine.{Machine}
 use Rattle.mv_bytestream.specs.declared.machine.Stage.{Stage}
 use Rattle.mv_bytestream.specs.declared.machine.Stage.TheVariants.{Leading, Making, Found, Given, Last, Ended, Refused}
@@ -46,3 +48,33 @@ scan_of m = record {
   zeros = m.zeros;
   refusal = refusal_at m.stage;
 }
+
+-- whether a unit is in the making, or none came yet, and nothing waits
+abbrev pub IsRunning : Stage → Type 0
+IsRunning Leading = ⊤
+IsRunning Making = ⊤
+IsRunning stage = ⊥
+
+-- how many units a machine will hand out beside those given, without a byte more
+abbrev pub in_hand : Stage → ℕ
+in_hand Making = 1
+in_hand Found = 2
+in_hand Given = 1
+in_hand Last = 1
+in_hand stage = 0
+
+-- what is so of each machine: it holds no more bytes than a unit may have, and its counts are below that of the bytes
+pub record IsHeld (m : Machine) : Type 0 where
+  pub most : vec_len m.unit ≤ longest_unit
+  pub units : m.given + in_hand m.stage ≤ m.fed
+  pub zeros : m.zeros ≤ m.fed
+
+-- there is room for n bytes more, or for as many as a unit may have
+abbrev pub HasRoom : Machine → ℕ → Type 0
+HasRoom m n = min (vec_len m.unit + min m.zeros 2 + n) longest_unit ≤ vec_capacity m.unit
+
+-- a machine took bytes, or refused them: what it stood for it then stands for, with them
+abbrev pub Takes : Machine → Machine → List ℕ → Option Refusal → Type 0
+Takes old new bytes result =
+    (s : List ℕ) → StandsFor (scan_of old) s →
+    MatchOption result (StandsFor (scan_of new) (s ++ bytes)) (λ r. refusal_shown unit_rules false (s ++ bytes) ≡ Some r)

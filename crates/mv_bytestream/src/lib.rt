@@ -5,6 +5,7 @@
 mod framing;
 mod heads;
 mod machine;
+mod making;
 mod scanner;
 mod splitting;
 #[cfg(test)]

@@ -6,7 +6,8 @@ ghost use Rattle.std.specs.Option.{option_map};
 ghost use Rattle.mv_io.specs.declared.refusal.Refusal.{Refusal};
 ghost use Rattle.mv_bytestream.specs.Scan.{RefusesEnd, RefusesPiece, StandsFor, TakesToUnit, nothing_fed};
 
-use crate::machine::{LONGEST_UNIT, Machine, Stage};
+use crate::machine::{Machine, Stage};
+use crate::making::LONGEST_UNIT;
 use crate::splitting::ScanFault;
 use std::alloc::{AllocError, Global};
 use std::marker::Model;
