@@ -1,5 +1,5 @@
 -- The bytes of a piece, up to one that ends a unit or shows a refusal.
-use Rattle.std.proofs.Common.{◌≡◌, ℕ, suc, ◌+◌, ◌-◌, ◌<◌, ◌≤◌, false, List, [], ◌∷◌, ◌++◌, length, take, drop, get_or, Option, None, Some, refl, ap, sym, ◌∙◌, subst, arith, append_assoc}
+use Rattle.std.proofs.Common.{◌≡◌, ◌⊎◌, inl, inr, ℕ, suc, ◌+◌, ◌-◌, ◌<◌, ◌≤◌, false, List, [], ◌∷◌, ◌++◌, length, take, drop, get_or, Option, None, Some, refl, ap, sym, ◌∙◌, subst, arith, append_assoc}
 use Rattle.std.specs.Option.{option_to_list}
 use Rattle.std.proofs.Math.Seq.{take-add, take-length, take-suc}
 use Rattle.std.proofs.lemmas.List.{length-take, length-drop, take-append-drop, take_rest, take-take}
@@ -9,7 +9,7 @@ use Rattle.mv_defs.specs.Rules.{unit_rules}
 use Rattle.mv_defs.specs.Event.{StartsWith, refusal_shown, whole_units}
 use Rattle.mv_defs.proofs.Shows.{shown-stays, whole-stays}
 use Rattle.mv_bytestream.specs.Scan.{StandsFor, TakesToUnit, ShowsAt}
-use Rattle.mv_bytestream.specs.Stages.{IsRunning, Takes, scan_of, waiting_at, has_ended, unit_held}
+use Rattle.mv_bytestream.specs.Stages.{IsRunning, Takes, scan_of, waiting_at, has_ended, refusal_at, unit_held}
 use Rattle.mv_bytestream.specs.declared.machine.Machine.{Machine}
 use Rattle.mv_bytestream.specs.declared.machine.Stage.{Stage}
 use Rattle.mv_bytestream.specs.declared.machine.Stage.TheVariants.{Leading, Making, Found, Given, Last, Ended, Refused}
@@ -155,3 +155,17 @@ takes-unit old mid new piece n low run still found given same before h s is =
 
     one-more : (us : List NalUnit) (u : NalUnit) → drop new.given us ≡ u ∷ [] → length us ≡ new.given + 1
     one-more us u e = let long : length (drop new.given us) ≡ 1 = ap length e in omega (arith, length-drop new.given us)
+
+-- a running machine wasn't refused
+pub running-unrefused : (stage : Stage) → IsRunning stage → refusal_at stage ≡ None
+running-unrefused Leading is = refl
+running-unrefused Making is = refl
+running-unrefused Found is = absurd is
+running-unrefused Given is = absurd is
+running-unrefused Last is = absurd is
+running-unrefused Ended is = absurd is
+running-unrefused (Refused r) is = absurd is
+
+pub goes_on-still : (stage : Stage) → IsRunning stage ⊎ (stage ≡ Found) → has_ended stage ≡ false
+goes_on-still stage (inl run) = running-goes_on stage run
+goes_on-still stage (inr is) = ap has_ended is

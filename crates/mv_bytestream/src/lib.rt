@@ -6,6 +6,8 @@ mod framing;
 mod heads;
 mod machine;
 mod making;
+#[cfg(test)]
+mod scan_tests;
 mod scanner;
 mod splitting;
 #[cfg(test)]

@@ -187,11 +187,14 @@ impl Machine {
         requires held { IsHeld self.old }
         requires room { HasRoom self.old (length piece.now) }
         requires countable { self.old.fed + length piece.now < 2 ^ 64 }
+        ensures within { IfOk result (λ n. n ≤ length piece.now) }
+        ensures some { IfOk result (λ n. 0 < length piece.now → 0 < n) }
         ensures stands { IfOk result (λ n. (s : List ℕ) → StandsFor (scan_of self.old) s → StandsFor (scan_of self.new) (s ++ take n piece.now)) }
         ensures takes { IfOk result (λ n. (s : List ℕ) → StandsFor (scan_of self.old) s → TakesToUnit s piece.now n) }
         ensures refused { IfErr result (λ r. (s : List ℕ) → StandsFor (scan_of self.old) s → (n : ℕ) × ShowsAt s piece.now r n) }
         ensures held { IsHeld self.new }
         ensures stage { OnOk result (IsRunning self.new.stage ⊎ (self.new.stage ≡ Stage.Found)) }
+        ensures took { IfOk result (λ n. self.new.fed ≡ self.old.fed + n) }
         ensures fed { self.new.fed ≤ self.old.fed + length piece.now }
         ensures given { self.new.given ≡ self.old.given }
     {

@@ -82,10 +82,13 @@ impl Scanner {
         requires nothing_waits { self.old.waiting ≡ None }
         requires goes_on { self.old.ended ≡ false }
         requires countable { self.old.fed + length piece.now < 2 ^ 64 }
+        ensures within { IfOk result (λ n. n ≤ length piece.now) }
+        ensures some { IfOk result (λ n. 0 < length piece.now → 0 < n) }
         ensures stands { IfOk result (λ n. (s : List ℕ) → StandsFor self.old s → StandsFor self.new (s ++ take n piece.now)) }
         ensures takes { IfOk result (λ n. (s : List ℕ) → StandsFor self.old s → TakesToUnit s piece.now n) }
         ensures refused { IfErr result (RefusesPiece self.old self.new piece.now) }
         ensures again { (r : Refusal) → self.old.refusal ≡ Some r → (result ≡ Err (ScanFault.Refused r)) × (self.new ≡ self.old) }
+        ensures took { IfOk result (λ n. self.new.fed ≡ self.old.fed + n) }
         ensures counted { self.new.fed ≤ self.old.fed + length piece.now }
         ensures given { self.new.given ≡ self.old.given }
         ensures ended { self.new.ended ≡ self.old.ended }
