@@ -22,13 +22,13 @@ use Rattle.mv_bytestream.specs.Scan.{Scan, StandsFor, Keeps, bytes_of}
 
 -- a scanner in which no unit waits, whose input goes on and that wasn't refused
 abbrev pub running : ℕ → ℕ → Option NalUnit → ℕ → Scan
-running fed given making zeros = record { fed = fed; given = given; ended = false; waiting = None; making = making; zeros = zeros; refusal = None }
+running fed given making z = record { fed = fed; given = given; ended = false; waiting = None; making = making; zeros = z; refusal = None }
 
 -- what it keeps, in the words of closed pieces and the open one
-pub record Runs (s : List ℕ) (cs : List (List ℕ)) (p : List ℕ) (fed given : ℕ) (making : Option NalUnit) (zeros : ℕ) : Type 0 where
+pub record Runs (s : List ℕ) (cs : List (List ℕ)) (p : List ℕ) (fed given : ℕ) (making : Option NalUnit) (z : ℕ) : Type 0 where
   pub opened : Open s cs p
   pub unit_is : making_of cs p ≡ making
-  pub piece : p ≡ bytes_of making ++ replicate zeros 0
+  pub piece : p ≡ bytes_of making ++ replicate z 0
   pub front_none : front_shown (cs ++ p ∷ []) ≡ None
   pub closed_none : verdict_by unit_rules (before cs) ≡ None
   pub late_none : late cs p ≡ None
@@ -36,7 +36,7 @@ pub record Runs (s : List ℕ) (cs : List (List ℕ)) (p : List ℕ) (fed given 
   pub count : fed ≡ length s
 
 abbrev pub SomeRuns : List ℕ → ℕ → ℕ → Option NalUnit → ℕ → Type 0
-SomeRuns s fed given making zeros = (cs : List (List ℕ)) × (p : List ℕ) × Runs s cs p fed given making zeros
+SomeRuns s fed given making z = (cs : List (List ℕ)) × (p : List ℕ) × Runs s cs p fed given making z
 
 pub none_left : (n : ℕ) (us : List NalUnit) → n ≤ length us → drop n us ≡ [] → n ≡ length us
 none_left zero [] low h = refl
@@ -44,14 +44,14 @@ none_left zero (u ∷ us) low h = absurd (cc)
 none_left (suc n) [] low h = absurd (omega arith)
 none_left (suc n) (u ∷ us) low h = let same : n ≡ length us = none_left n us (omega arith) h in omega arith
 
-pub runs : (s : List ℕ) (fed given : ℕ) (making : Option NalUnit) (zeros : ℕ) → StandsFor (running fed given making zeros) s → SomeRuns s fed given making zeros
-runs s fed given making zeros h = go (opens s)
+pub runs : (s : List ℕ) (fed given : ℕ) (making : Option NalUnit) (z : ℕ) → StandsFor (running fed given making z) s → SomeRuns s fed given making z
+runs s fed given making z h = go (opens s)
   where
-    go : (cs : List (List ℕ)) × (p : List ℕ) × Open s cs p → SomeRuns s fed given making zeros
+    go : (cs : List (List ℕ)) × (p : List ℕ) × Open s cs p → SomeRuns s fed given making z
     go (cs, p, is) =
         let keeps = h.keeps refl in
         let quiet = nothing_at (front_shown (cs ++ p ∷ [])) (verdict_by unit_rules (before cs)) (late cs p) (sym (shown-is unit_rules s cs p is) ∙ h.accepted) in
-        let same : Some p ≡ Some (bytes_of making ++ replicate zeros 0) = sym (ap last is ∙ last-end cs p) ∙ keeps.piece in (
+        let same : Some p ≡ Some (bytes_of making ++ replicate z 0) = sym (ap last is ∙ last-end cs p) ∙ keeps.piece in (
           cs,
           p,
           record {
@@ -69,19 +69,19 @@ runs s fed given making zeros h = go (opens s)
 pub quiet_at : (f v l : Option Refusal) → f ≡ None → v ≡ None → l ≡ None → option_or f (option_or v l) ≡ None
 quiet_at f v l a b c = ap (λ f. option_or f (option_or v l)) a ∙ ap (λ v. option_or v l) b ∙ c
 
-pub keeps_at : (s : List ℕ) (cs : List (List ℕ)) (p : List ℕ) (making : Option NalUnit) (zeros : ℕ) → Open s cs p → making_of cs p ≡ making → p ≡ bytes_of making ++ replicate zeros 0 → Keeps s making zeros
-keeps_at s cs p making zeros is m e = record {
+pub keeps_at : (s : List ℕ) (cs : List (List ℕ)) (p : List ℕ) (making : Option NalUnit) (z : ℕ) → Open s cs p → making_of cs p ≡ making → p ≡ bytes_of making ++ replicate z 0 → Keeps s making z
+keeps_at s cs p making z is m e = record {
   unit = last-is s cs p is ∙ m;
   piece = ap last is ∙ last-end cs p ∙ ap Some e;
 }
 
-pub runs-stands : (s : List ℕ) (cs : List (List ℕ)) (p : List ℕ) (fed given : ℕ) (making : Option NalUnit) (zeros : ℕ) → Runs s cs p fed given making zeros → StandsFor (running fed given making zeros) s
-runs-stands s cs p fed given making zeros h = record {
+pub runs-stands : (s : List ℕ) (cs : List (List ℕ)) (p : List ℕ) (fed given : ℕ) (making : Option NalUnit) (z : ℕ) → Runs s cs p fed given making z → StandsFor (running fed given making z) s
+runs-stands s cs p fed given making z h = record {
   fed = h.count;
   accepted = shown-is unit_rules s cs p h.opened ∙ quiet_at _ _ _ h.front_none h.closed_none h.late_none;
   given = subst (λ us. given ≤ length us) (sym (whole-is s cs p h.opened)) (let same : given ≡ length (before cs) = h.number in omega arith);
   waiting = ap (drop given) (whole-is s cs p h.opened) ∙ ap (λ n. drop n (before cs)) h.number ∙ drop-length (before cs);
-  keeps = λ _. keeps_at s cs p making zeros h.opened h.unit_is h.piece;
+  keeps = λ _. keeps_at s cs p making z h.opened h.unit_is h.piece;
   unrefused = refl;
 }
 
@@ -126,15 +126,15 @@ leading-front i (a ∷ p) w h = go (is_zero a) h (leading-front (i + 1) p w)
     go true e rest = rest e
     go false e rest = absurd (cc)
 
-pub runs-zero : (s : List ℕ) (cs : List (List ℕ)) (p : List ℕ) (fed given : ℕ) (making : Option NalUnit) (zeros : ℕ) → Runs s cs p fed given making zeros →
-    Runs (s ++ 0 ∷ []) cs (p ++ 0 ∷ []) (fed + 1) given making (zeros + 1)
-runs-zero s cs p fed given making zeros h = record {
+pub runs-zero : (s : List ℕ) (cs : List (List ℕ)) (p : List ℕ) (fed given : ℕ) (making : Option NalUnit) (z : ℕ) → Runs s cs p fed given making z →
+    Runs (s ++ 0 ∷ []) cs (p ++ 0 ∷ []) (fed + 1) given making (z + 1)
+runs-zero s cs p fed given making z h = record {
   opened = pieces-more s (0 ∷ []) cs p h.opened ∙ ap (λ qs. cs ++ qs) (pieces-clean (p ++ 0 ∷ []) (has_code-zero p ∙ open-clean s cs p h.opened));
   unit_is = same_making cs ∙ h.unit_is;
   piece =
       ap (λ q. q ++ 0 ∷ []) h.piece
-      ∙ append_assoc (bytes_of making) (replicate zeros 0) (0 ∷ [])
-      ∙ ap (λ w. bytes_of making ++ w) (replicate_more zeros 0);
+      ∙ append_assoc (bytes_of making) (replicate z 0) (0 ∷ [])
+      ∙ ap (λ w. bytes_of making ++ w) (replicate_more z 0);
   front_none = same_front cs h.front_none;
   closed_none = h.closed_none;
   late_none = same_late cs ∙ h.late_none;
@@ -155,9 +155,9 @@ runs-zero s cs p fed given making zeros h = record {
     same_late (c ∷ cs) = ap (λ b. refusal_by early_rules (fact (before (c ∷ cs)) (record { place = span (c ∷ cs) 0; bytes = b }))) (trimmed-zero p)
 
 -- a byte before the first code that may not stand there
-pub leading-shown : (s : List ℕ) (p : List ℕ) (fed given : ℕ) (making : Option NalUnit) (zeros b : ℕ) → Runs s [] p fed given making zeros →
+pub leading-shown : (s : List ℕ) (p : List ℕ) (fed given : ℕ) (making : Option NalUnit) (z b : ℕ) → Runs s [] p fed given making z →
     is_zero b ≡ false → pieces (p ++ b ∷ []) ≡ (p ++ b ∷ []) ∷ [] → refusal_shown unit_rules false (s ++ b ∷ []) ≡ Some (refused_leading fed)
-leading-shown s p fed given making zeros b h is clean =
+leading-shown s p fed given making z b h is clean =
     let n : 0 + length p ≡ fed = let l : span [] 0 + length p ≡ length s = open-length s [] p h.opened in let f : fed ≡ length s = h.count in omega arith in
     shown-is unit_rules (s ++ b ∷ []) [] (p ++ b ∷ []) (pieces-more s (b ∷ []) [] p h.opened ∙ clean)
     ∙ ap (λ o. option_or (option_map refused_leading o) (option_or (verdict_by unit_rules (before [])) None)) (leading-first 0 p b (no_front _ h.front_none) is ∙ ap Some n)
@@ -166,9 +166,9 @@ leading-shown s p fed given making zeros b h is clean =
 abbrev pub fact_at : ℕ → ℕ → List ℕ → Fact
 fact_at given place bytes = record { number = given; unit = record { place = place; bytes = bytes }; head = head bytes }
 
-pub content-shown : (s : List ℕ) (c : List ℕ) (cs : List (List ℕ)) (p : List ℕ) (fed given : ℕ) (u : NalUnit) (zeros : ℕ) (w : List ℕ) → Runs s (c ∷ cs) p fed given (Some u) zeros →
+pub content-shown : (s : List ℕ) (c : List ℕ) (cs : List (List ℕ)) (p : List ℕ) (fed given : ℕ) (u : NalUnit) (z : ℕ) (w : List ℕ) → Runs s (c ∷ cs) p fed given (Some u) z →
     pieces (p ++ w) ≡ (p ++ w) ∷ [] → IsTrimmed (p ++ w) → refusal_shown unit_rules false (s ++ w) ≡ refusal_by early_rules (fact_at given u.place (p ++ w))
-content-shown s c cs p fed given u zeros w h clean ends =
+content-shown s c cs p fed given u z w h clean ends =
     let place : span (c ∷ cs) 0 ≡ u.place = let m : Some (behind (c ∷ cs) p) ≡ Some u = h.unit_is in let same : behind (c ∷ cs) p ≡ u = cc in ap (λ (u : NalUnit). u.place) same in
     shown-is unit_rules (s ++ w) (c ∷ cs) (p ++ w) (pieces-more s w (c ∷ cs) p h.opened ∙ ap (λ qs. (c ∷ cs) ++ qs) clean)
     ∙ ap (λ f. option_or f (option_or (verdict_by unit_rules (before (c ∷ cs))) (late (c ∷ cs) (p ++ w)))) h.front_none
@@ -177,10 +177,10 @@ content-shown s c cs p fed given u zeros w h clean ends =
     ∙ ap (λ n. refusal_by early_rules (fact_at n (span (c ∷ cs) 0) (p ++ w))) (sym h.number)
     ∙ ap (λ at. refusal_by early_rules (fact_at given at (p ++ w))) place
 
-pub runs-content : (s : List ℕ) (c : List ℕ) (cs : List (List ℕ)) (p : List ℕ) (fed given : ℕ) (u : NalUnit) (zeros : ℕ) (w : List ℕ) → Runs s (c ∷ cs) p fed given (Some u) zeros →
+pub runs-content : (s : List ℕ) (c : List ℕ) (cs : List (List ℕ)) (p : List ℕ) (fed given : ℕ) (u : NalUnit) (z : ℕ) (w : List ℕ) → Runs s (c ∷ cs) p fed given (Some u) z →
     pieces (p ++ w) ≡ (p ++ w) ∷ [] → IsTrimmed (p ++ w) → refusal_by early_rules (fact_at given u.place (p ++ w)) ≡ None →
     Runs (s ++ w) (c ∷ cs) (p ++ w) (fed + length w) given (Some (record { place = u.place; bytes = p ++ w })) 0
-runs-content s c cs p fed given u zeros w h clean ends none =
+runs-content s c cs p fed given u z w h clean ends none =
     let same : behind (c ∷ cs) p ≡ u = let m : Some (behind (c ∷ cs) p) ≡ Some u = h.unit_is in cc in
     let place : span (c ∷ cs) 0 ≡ u.place = ap (λ (u : NalUnit). u.place) same in
     record {

@@ -30,9 +30,9 @@ making_at stage unit fed = None
 
 -- the zero bytes behind it: none behind a unit that is finished
 abbrev pub zeros_at : Stage → ℕ → ℕ
-zeros_at Found zeros = 0
-zeros_at Given zeros = 0
-zeros_at stage zeros = zeros
+zeros_at Found count = 0
+zeros_at Given count = 0
+zeros_at stage count = count
 
 -- the refusal
 abbrev pub refusal_at : Stage → Option Refusal

@@ -1,4 +1,4 @@
-use Rattle.std.proofs.Common.{◌≡◌, ◌+◌, ◌≤◌, ℕ, None, Some, sym, ap, ◌∙◌, subst, arith, length}
+use Rattle.std.proofs.Common.{◌≡◌, ◌+◌, None, Some, sym, ap, ◌∙◌, subst, arith}
 use Rattle.mv_bytestream.specs.Scan.{Scan, StandsFor}
 use Rattle.mv_bytestream.specs.Stages.{scan_of}
 use Rattle.mv_bytestream.proofs.Piece.{running-unrefused, goes_on-still}
@@ -15,7 +15,7 @@ returns-in-Ok c =
       takes = λ s h. c.in-Ok.ensures.takes s (subst (λ (scan : Scan). StandsFor scan s) (sym same) h);
       refused = tt;
       again = λ r is.
-        absurd (let no : None ≡ Some r = sym (running-unrefused c.make_room.new.self.stage c.make_room.ensures.running) ∙ ap (λ (scan : Scan). scan.refusal) same ∙ is in cc);
+          absurd (let no : None ≡ Some r = sym (running-unrefused c.make_room.new.self.stage c.make_room.ensures.running) ∙ ap (λ (scan : Scan). scan.refusal) same ∙ is in cc);
       took = c.in-Ok.ensures.took ∙ ap (λ n. n + c.in-Ok.count) fed;
       counted = omega (arith, c.in-Ok.ensures.fed, fed);
       given = c.in-Ok.ensures.given ∙ ap (λ (scan : Scan). scan.given) same;
