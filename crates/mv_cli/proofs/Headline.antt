@@ -32,17 +32,18 @@ due_by false (Some refusal) = refl
 by_status : (old : Option Told) (limit : ℕ) (answer : Result ⊤ ExtractError) → IfSome old (λ was. (answer ≡ due limit was.left) ⊎ (answer ≡ Err Memory)) → IfSome old (λ was. (status_for answer ≡ due_status limit was.left) ⊎ (status_for answer ≡ 5))
 by_status None limit answer h = tt
 by_status (Some was) limit answer h = elim h [
-    inl e ↦ inl (ap status_for e ∙ due_by (nat_lt limit (length was.left)) (verdict_of was.left))
-  | inr e ↦ inr (ap status_for e) ]
+  | inl e ↦ inl (ap status_for e ∙ due_by (nat_lt limit (length was.left)) (verdict_of was.left))
+  | inr e ↦ inr (ap status_for e)
+]
 
 -- an extraction that answered
 headline_by : (words : List (List ℕ)) (limit : ℕ) (input : Input) (output : Output) (answer : Result ⊤ ExtractError) → IsForm words → Answers limit input output answer → Headline words limit input output (status_for answer)
 headline_by words limit input output answer form answers = record {
-    succeeds = λ e. (form, accepts answer answers e);
-    decided = λ f calm quiet. by_status input.old limit answer (settles limit input output answer answers calm quiet);
-    usage = λ no. absurd (no form);
-    form = λ e f. not_two answer e;
-  }
+  succeeds = λ e. (form, accepts answer answers e);
+  decided = λ f calm quiet. by_status input.old limit answer (settles limit input output answer answers calm quiet);
+  usage = λ no. absurd (no form);
+  form = λ e f. not_two answer e;
+}
   where
     accepts : (a : Result ⊤ ExtractError) → Answers limit input output a → status_for a ≡ 0 → Accepts limit input output
     accepts (Ok done) answers e = answers
@@ -51,6 +52,7 @@ headline_by words limit input output answer form answers = record {
     accepts (Err Write) answers e = absurd (omega arith)
     accepts (Err TooManyBytes) answers e = absurd (omega arith)
     accepts (Err Memory) answers e = absurd (omega arith)
+
     not_two : (a : Result ⊤ ExtractError) → status_for a ≡ 2 → ⊥
     not_two (Ok done) e = omega arith
     not_two (Err (RefusedBy refusal)) e = omega arith
@@ -63,11 +65,11 @@ pub headline : (words : List (List ℕ)) (limit : ℕ) (input : Input) (output :
 headline words limit input output Done caused = headline_by words limit input output (Ok tt) caused.0 caused.1
 headline words limit input output (Refused refusal) caused = headline_by words limit input output (Err (RefusedBy refusal)) caused.0 caused.1
 headline words limit input output Usage caused = record {
-    succeeds = λ e. absurd (omega arith);
-    decided = λ f calm quiet. absurd (caused.0 f);
-    usage = λ no. refl;
-    form = λ e. caused.0;
-  }
+  succeeds = λ e. absurd (omega arith);
+  decided = λ f calm quiet. absurd (caused.0 f);
+  usage = λ no. refl;
+  form = λ e. caused.0;
+}
 headline words limit input output ReadFault caused = headline_by words limit input output (Err Read) caused.0 caused.1
 headline words limit input output WriteFault caused = headline_by words limit input output (Err Write) caused.0 caused.1
 headline words limit input output NoMemory caused = headline_by words limit input output (Err Memory) caused.0 caused.1

@@ -12,6 +12,7 @@ two f (a ∷ b ∷ c ∷ xs) x y low high ex ey = absurd (omega arith)
 
 -- where the first of two texts is the wanted one, the test of the second decides whether both are
 pub both : (ws : List (List ℕ)) (x y xn yn p q : List ℕ) (r : Bool) → ws ≡ x ∷ y ∷ [] → xn ≡ x → yn ≡ y → true ≡ bytes_eq xn p → r ≡ bytes_eq yn q → IsTrue r ↔ (ws ≡ p ∷ q ∷ [])
-both ws x y xn yn p q r two ex ey first second =
-    (λ h. two ∙ ap (λ v. v ∷ y ∷ []) (sym ex ∙ (bytes_eq-Decides xn p).0 (sym first)) ∙ ap (λ v. p ∷ v ∷ []) (sym ey ∙ (bytes_eq-Decides yn q).0 (sym second ∙ h)),
-    λ same. let parts : x ∷ y ∷ [] ≡ p ∷ q ∷ [] = sym two ∙ same in let last : y ≡ q = cc in second ∙ (bytes_eq-Decides yn q).1 (ey ∙ last))
+both ws x y xn yn p q r two ex ey first second = (
+  λ h. two ∙ ap (λ v. v ∷ y ∷ []) (sym ex ∙ (bytes_eq-Decides xn p).0 (sym first)) ∙ ap (λ v. p ∷ v ∷ []) (sym ey ∙ (bytes_eq-Decides yn q).0 (sym second ∙ h)),
+  λ same. let parts : x ∷ y ∷ [] ≡ p ∷ q ∷ [] = sym two ∙ same in let last : y ≡ q = cc in second ∙ (bytes_eq-Decides yn q).1 (ey ∙ last),
+)

@@ -5,11 +5,12 @@
 mod ending;
 mod line;
 mod run;
-
-pub use run::{run, run_within};
+#[cfg(test)]
+mod tests;
 
 use ending::Ending;
 use mv_io::{StdSink, StdSource};
+pub use run::{run, run_within};
 use std::env;
 use std::io::ErrorKind;
 use std::process::ExitCode;

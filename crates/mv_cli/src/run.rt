@@ -1,5 +1,6 @@
 ghost use Rattle.std.specs.Prelude.{◌≡◌, ◌≢◌, false, ◌^◌, ◌↔◌, IsTrue, map, string_bytes};
-ghost use Rattle.mv_cli.specs.Answers.{Answers, Caused, Headline};
+ghost use Rattle.mv_cli.specs.Answers.{Answers, Caused, Headline, Tells};
+ghost use Rattle.mv_cli.specs.Ending.{line_of};
 ghost use Rattle.mv_cli.specs.Words.{IsForm};
 ghost use Rattle.mv_extract.specs.Call.{input_of, output_of};
 
@@ -106,6 +107,10 @@ pub fn with_flush<E: Sink>(status: u8, flushed: bool, faults: &mut E) -> u8
     ensures kept { status ≢ 0 → result ≡ status }
     ensures flushed { IsTrue flushed → result ≡ status }
     ensures failed { flushed ≡ false → status ≡ 0 → result ≡ 4 }
+    ensures says { flushed ≡ false → status ≡ 0 → Tells
+        (output_of (E.taken faults.old) (E.taken faults.new) (E.faults faults.old) (E.faults faults.new))
+        (line_of Ending.WriteFault) }
+    ensures silent { result ≡ status → E.taken faults.new ≡ E.taken faults.old }
 {
     if status == 0 && !flushed {
         let ending = Ending::WriteFault;

@@ -71,7 +71,11 @@ fn write_kept<K: Sink>(bytes: &[u8], spans: &[Span], sink: &mut K) -> Result<(),
         let head = match read_head(unit) {
             Ok(head) => head,
             Err(rule) => {
-                let refusal = Refusal { unit: number as u64, byte: span.from as u64, rule };
+                let refusal = Refusal {
+                    unit: number as u64,
+                    byte: span.from as u64,
+                    rule,
+                };
                 return Err(ExtractError::Refused(refusal));
             }
         };

@@ -6,8 +6,8 @@ returns-clause-headline g c = rw c.status.ensures (headline _ _ _ _ c.end-ending
 
 pub returns-clause-answers : goal.returns-clause-answers
 returns-clause-answers g c = record {
-    ending = c.end-ending.result;
-    status_is = c.status.ensures;
-    caused = c.end-ending.ensures;
-    line = c.tell.ensures;
-  }
+  ending = c.end-ending.result;
+  status_is = c.status.ensures;
+  caused = c.end-ending.ensures;
+  line = c.tell.ensures;
+}
