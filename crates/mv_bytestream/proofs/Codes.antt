@@ -1,8 +1,8 @@
 -- A search for the start code prefix, in the words of pieces.
-use Rattle.std.proofs.Common.{◌≡◌, ◌≢◌, ℕ, zero, suc, ◌+◌, ◌-◌, ◌<◌, ◌≤◌, Bool, true, false, ◌==◌, ◌&&◌, ◌||◌, List, [], ◌∷◌, ◌++◌, length, take, drop, get_or, refl, ap, sym, ◌∙◌, subst, arith, slice_range, min}
+use Rattle.std.proofs.Common.{◌≡◌, ℕ, zero, suc, ◌+◌, ◌-◌, ◌<◌, ◌≤◌, Bool, true, false, ◌==◌, ◌&&◌, List, [], ◌∷◌, ◌++◌, length, take, drop, get_or, refl, ap, sym, ◌∙◌, subst, arith, slice_range, min}
 use Rattle.std.proofs.lemmas.Bool.{or_from, and_parts, eqb-true}
 use Rattle.std.proofs.lemmas.List.{get_or-take, length-take, length-drop, drop-drop, take_rest}
-use Rattle.std.proofs.Math.Seq.{drop-cons, take-length}
+use Rattle.std.proofs.Math.Seq.{drop-cons}
 use Rattle.memchr.specs.Find.{OccursAt, Nowhere}
 use Rattle.mv_defs.specs.Units.{start_code, is_code, has_code}
 use Rattle.mv_bytestream.specs.Spans.{CodeOrEnd}

@@ -1,5 +1,5 @@
 -- One step from a start code to the next.
-use Rattle.std.proofs.Common.{◌≡◌, ℕ, ◌+◌, ◌-◌, ◌<◌, ◌≤◌, Bool, false, not, List, [], ◌∷◌, ◌++◌, length, take, drop, map, All, ◌⊎◌, inl, inr, refl, ap, sym, ◌∙◌, subst, arith, slice_range, append_assoc, min, Option, Some, IsSomeAnd, Result, Ok, Err, OnOk}
+use Rattle.std.proofs.Common.{◌≡◌, ℕ, ◌+◌, ◌-◌, ◌<◌, ◌≤◌, false, not, List, [], ◌∷◌, ◌++◌, length, take, drop, map, All, ◌⊎◌, inl, inr, refl, ap, sym, ◌∙◌, subst, arith, slice_range, append_assoc, Option, Some, IsSomeAnd, Result, Ok, Err, OnOk}
 use Rattle.mv_defs.specs.Verdict.{refused_leading}
 use Rattle.std.specs.List.{position_from}
 use Rattle.std.proofs.lemmas.List.{length-take, length-drop, map-append}

@@ -1,5 +1,5 @@
 -- What a sink took of two pieces in a row, where the first or the second write failed.
-use Rattle.std.proofs.Common.{◌≡◌, ℕ, ◌+◌, ◌<◌, ◌≤◌, Option, List, [], ◌∷◌, ◌++◌, take, length, ap, sym, ◌∙◌, subst, arith, append-nil, length-append, Result, Ok, Err, OnOk, OnErr}
+use Rattle.std.proofs.Common.{◌≡◌, ℕ, ◌+◌, ◌<◌, ◌≤◌, Option, List, [], ◌∷◌, ◌++◌, take, length, ap, sym, subst, arith, append-nil, length-append, Result, Ok, Err, OnOk, OnErr}
 use Rattle.mv_io.specs.declared.sink.SinkFailed.{SinkFailed}
 use Rattle.std.proofs.lemmas.List.{take-append-le}
 use Rattle.std.proofs.Math.Seq.{take-append-add}

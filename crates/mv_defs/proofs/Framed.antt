@@ -1,9 +1,9 @@
 -- Units that were framed are split again into the same units.
-use Rattle.std.proofs.Common.{◌≡◌, ◌≢◌, ℕ, zero, suc, ◌+◌, Bool, true, false, None, ◌||◌, List, [], ◌∷◌, ◌++◌, length, map, drop, refl, ap, sym, ◌∙◌, subst, append_assoc, append-nil}
+use Rattle.std.proofs.Common.{◌≡◌, ℕ, ◌+◌, false, None, ◌||◌, List, [], ◌∷◌, ◌++◌, length, map, drop, refl, ap, sym, ◌∙◌, append_assoc, append-nil}
 use Rattle.std.specs.List.{All, AllByRecursion}
 use Rattle.std.proofs.lemmas.List.Elements.{All-head, All-tail}
-use Rattle.mv_defs.specs.Units.{start_code, is_code, has_code, pieces, front_of, front, leading, trimmed, NalUnit, placed, units}
-use Rattle.mv_defs.specs.Framing.{frame, long_code, IsFramable}
+use Rattle.mv_defs.specs.Units.{start_code, is_code, has_code, pieces, leading, trimmed, NalUnit, placed, units}
+use Rattle.mv_defs.specs.Framing.{frame, IsFramable}
 use Rattle.mv_defs.proofs.Pieces.{is_code-zero, pieces-code, pieces-clean}
 use Rattle.mv_defs.proofs.Trimmed.{trimmed-zero, trimmed-whole}
 

@@ -1,7 +1,6 @@
 -- What a longer string keeps: units that a start code closed, and a leading byte that was refused.
-use Rattle.std.proofs.Common.{◌≡◌, ◌≢◌, ℕ, zero, suc, ◌+◌, Bool, true, false, cond, ◌==◌, not, ◌&&◌, List, [], ◌∷◌, ◌++◌, length, drop, Option, None, Some, refl, ap, sym, ◌∙◌, subst, append_assoc}
+use Rattle.std.proofs.Common.{◌≡◌, ℕ, ◌+◌, Bool, true, false, cond, ◌==◌, not, ◌&&◌, List, [], ◌∷◌, ◌++◌, length, drop, Option, None, Some, refl, ap, sym, ◌∙◌, subst}
 use Rattle.std.specs.List.{position_from}
-use Rattle.std.proofs.lemmas.Bool.{eqb-true}
 use Rattle.mv_defs.specs.Units.{is_code, is_zero, lead, pieces, front_of, front, leading, trimmed, NalUnit, placed, units}
 use Rattle.mv_defs.proofs.Pieces.{AreClean, closed_of, open_of, closed-open, pieces_split, pieces-append, pieces-byte, pieces-at}
 

@@ -1,6 +1,6 @@
 -- The units of a string that is cut before its next start code.
-use Rattle.std.proofs.Common.{◌≡◌, ℕ, ◌+◌, Bool, false, List, [], ◌∷◌, ◌++◌, length, drop, ◌⊎◌, inl, inr, refl, ap, sym, ◌∙◌, append-nil, arith}
-use Rattle.mv_defs.specs.Units.{start_code, has_code, pieces, front_of, front, trimmed, NalUnit, placed, units_at}
+use Rattle.std.proofs.Common.{◌≡◌, ℕ, ◌+◌, false, List, [], ◌∷◌, ◌++◌, length, drop, ◌⊎◌, inl, inr, ap, sym, ◌∙◌, append-nil, arith}
+use Rattle.mv_defs.specs.Units.{start_code, has_code, pieces, front_of, front, trimmed, placed, units_at}
 use Rattle.mv_defs.proofs.Pieces.{pieces-code, pieces-clean}
 
 -- a string that is empty or begins with a start code

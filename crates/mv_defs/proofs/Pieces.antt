@@ -1,9 +1,9 @@
 -- The pieces of a string: they are its one split at start code prefixes, and what a longer string keeps of them.
-use Rattle.std.proofs.Common.{◌≡◌, ◌≢◌, ℕ, zero, suc, ◌+◌, ◌<◌, Bool, true, false, cond, ◌==◌, ◌&&◌, ◌||◌, List, [], ◌∷◌, ◌++◌, length, refl, ap, sym, ◌∙◌, subst, append_assoc, ◌⊎◌, inl, inr, arith}
+use Rattle.std.proofs.Common.{◌≡◌, ℕ, ◌<◌, Bool, true, false, ◌==◌, ◌&&◌, List, [], ◌∷◌, ◌++◌, length, refl, ap, sym, ◌∙◌, subst, append_assoc, arith}
 use Rattle.std.proofs.lemmas.Bool.{or_parts, or_from, and_parts, eqb-true}
 use Rattle.std.specs.List.{All}
 use Rattle.std.proofs.lemmas.List.Elements.{All-head, All-tail, All-cons, All-nil}
-use Rattle.mv_defs.specs.Units.{IsSplit, start_code, is_code, has_code, lead, pieces, joined, front_of, front}
+use Rattle.mv_defs.specs.Units.{IsSplit, start_code, is_code, has_code, lead, pieces, joined}
 
 -- a code ends in 01
 pub is_code-zero : (a b : ℕ) → is_code a b 0 ≡ false

@@ -1,5 +1,5 @@
 -- Units as a byte stream (Annex B, B.2.2): before each one a zero_byte and a start code prefix.
-use Rattle.std.specs.Prelude.{◌≡◌, ◌≢◌, ℕ, ◌-◌, ◌≤◌, Bool, false, List, [], ◌∷◌, ◌++◌, length, slice_index}
+use Rattle.std.specs.Prelude.{◌≡◌, ◌≢◌, ℕ, ◌-◌, ◌≤◌, false, List, [], ◌∷◌, ◌++◌, length, slice_index}
 use Rattle.mv_defs.specs.Units.{has_code}
 
 -- what stands before a unit: zero_byte and start_code_prefix_one_3bytes, 00 00 00 01

@@ -8,8 +8,8 @@ pub record Queue : Type 0 where
   -- how many more it takes now
   pub room : ℕ
 
--- the first few of the bytes that waited were handed on, and the others wait, with `added` behind them:
--- none is lost, and none comes twice
+-- the first few of the bytes that waited no longer wait, and the others do, in their order and with `added`
+-- behind them (whether the first few reached the system, no definition can say)
 pub record WaitsOn (old new added : List ℕ) : Type 0 where
   pub count : ℕ
   pub others_wait : new ≡ drop count old ++ added

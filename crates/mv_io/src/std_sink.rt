@@ -87,7 +87,7 @@ impl<R: Print + Eprint + Drop> Sink for StdSink<R> {
         ensures appends { WriteAppends None None result piece.now }
         ensures cause { HasCause self.old.faults self.new.faults result }
 
-        // What was taken before is handed on first, and nothing of it is lost.
+        // What waited before goes on first, and the piece comes behind what still waits.
         ensures waits { IfOk result (λ n.
             WaitsOn self.old.waiting self.new.waiting (take n piece.now) ⊎ (self.new.waiting ≡ [])) }
         ensures failed { OnErr result (WaitsOn self.old.waiting self.new.waiting []) }

@@ -1,4 +1,4 @@
-use Rattle.std.proofs.Common.{◌≡◌, ◌≤◌, arith, sym, ◌∙◌, ap, slice_range}
+use Rattle.std.proofs.Common.{◌≡◌, arith, sym, ◌∙◌}
 use Rattle.mv_bytestream.proofs.Ends.{trimmed-less, trimmed-stays, trimmed-none}
 use Rattle.mv_bytestream.proofs.splitting.trimmed_end.Goals as goal
 
