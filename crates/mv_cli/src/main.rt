@@ -8,7 +8,6 @@ mod run;
 #[cfg(test)]
 mod tests;
 
-use ending::Ending;
 use mv_io::{StdSink, StdSource};
 pub use run::{run, run_within};
 use std::env;
