@@ -1,1 +1,6 @@
+pub mod AnswerLaws
 pub mod BitLaws
+pub mod LineLaws
+pub mod PayloadLaws
+pub mod TableLaws
+pub mod Tried
