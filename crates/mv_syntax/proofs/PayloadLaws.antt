@@ -1,9 +1,10 @@
 -- The laws of whole payloads: the reader answers a value exactly where it reads, and a rule exactly where it cuts.
-use Rattle.std.proofs.Common.{◌≡◌, ℕ, zero, suc, ◌+◌, ◌-◌, ◌≤◌, ◌<◌, Bool, true, false, List, [], ◌∷◌, ◌++◌, length, replicate, Option, Some, None, is_some, Result, Ok, Err, ◌⊎◌, if◌then◌else◌, nat_lt, refl, sym, ap, ◌∙◌, subst, inl, inr, append_assoc, arith, length-append}
-use Rattle.mv_syntax.specs.Bits.{Fault, short, breaks, align_bits, trailing_bits, has_one, to_byte_end}
+use Rattle.std.proofs.Common.{◌≡◌, ℕ, zero, suc, ◌+◌, ◌-◌, ◌≤◌, ◌<◌, Bool, true, false, List, [], ◌∷◌, ◌++◌, length, replicate, Option, Some, None, is_some, Result, Ok, Err, ◌⊎◌, if◌then◌else◌, nat_lt, refl, sym, ap, ◌∙◌, subst, inl, inr, append_assoc, append-nil, add-zero, nat_eq, ◌%◌, ◌≢◌, arith, length-append}
+use Rattle.mv_syntax.specs.Bits.{Fault, short, breaks, align_bits, trailing_bits, has_one, to_byte_end, more_data, take_bits, u_bits}
 use Rattle.mv_syntax.specs.Bits as bits
-use Rattle.mv_syntax.specs.Table.{Valid, bits_of, Cut, read}
-use Rattle.mv_syntax.specs.Payload.{size_limit, Payload, tail_bits, payload_bits, ReadsPayload, CutPayload, before_last_one, take_tail, same_bits, read_end, read_payload, PayloadExactlyOne, PayloadRoundTrips}
+use Rattle.mv_syntax.specs.Table.{Table, Valid, bits_of, Cut, read}
+use Rattle.mv_syntax.specs.Payload.{size_limit, Payload, tail_bits, payload_bits, ReadsPayload, CutPayload, before_last_one, take_tail, same_bits, read_end, read_payload, rest_of_tail, PayloadExactlyOne, PayloadRoundTrips}
+use Rattle.mv_syntax.proofs.BitLaws.{length-trailing_bits, length-u_bits, take_bits-printed}
 use Rattle.mv_syntax.proofs.TableLaws.{behind-count, ok_value, bind-ok, bind-err, read-ok, reads-read, read-cut, cut-read, ok_err, err_fault, breaks-same, short-breaks, Answered, one_of_three}
 
 -- ---- the last set bit
@@ -214,3 +215,112 @@ payload_round_trips p = record {
   written_reads = λ v h. read_payload-reads p (payload_bits p v) v (record { valid = h; bits = refl });
   read_writes = λ b v e. let h : ReadsPayload p b v = reads-read_payload p b v e in (h.valid, h.bits);
 }
+
+-- ---- a tail, bit by bit
+pub same_bits-cons : (x : Bool) (b c : List Bool) → same_bits (x ∷ b) (x ∷ c) ≡ same_bits b c
+same_bits-cons true b c = refl
+same_bits-cons false b c = refl
+
+-- what read_end makes of the bits before the last set bit, behind the bits of the tail so far
+abbrev pub found_tail : ℕ → List Bool → List Bool → List Bool → Result (Option (List Bool)) Fault
+found_tail place tail b more = if same_bits b (more ++ trailing_bits (place + length more)) then Ok (Some (tail ++ more)) else Err short
+
+pub found_tail-step : (place : ℕ) (tail : List Bool) (x : Bool) (b more : List Bool) → found_tail (place + 1) (tail ++ x ∷ []) b more ≡ found_tail place tail (x ∷ b) (x ∷ more)
+found_tail-step place tail x b more =
+    let next : place + 1 + length more ≡ place + suc (length more) = omega arith in
+    rw (same_bits-cons x b (more ++ trailing_bits (place + suc (length more))), append_assoc tail (x ∷ []) more, next) refl
+
+pub rest_of_tail-is : (place : ℕ) (tail b : List Bool) → rest_of_tail place tail b ≡ bits.◌>>=◌ (before_last_one b) (found_tail place tail b)
+unfolding rest_of_tail before_last_one trailing_bits
+rest_of_tail-is place tail [] = refl
+rest_of_tail-is place tail (x ∷ b) = go x (has_one b) (before_last_one b) (rest_of_tail-is (place + 1) (tail ++ x ∷ []) b)
+  where
+    go : (y some : Bool) (front : Result (List Bool) Fault)
+        → rest_of_tail (place + 1) (tail ++ y ∷ []) b ≡ bits.◌>>=◌ front (found_tail (place + 1) (tail ++ y ∷ []) b)
+        → Path (Result (Option (List Bool)) Fault)
+        (if some then rest_of_tail (place + 1) (tail ++ y ∷ []) b else (if same_bits (y ∷ b) (trailing_bits place) then Ok (Some tail) else Err short))
+        (bits.◌>>=◌ (if some then bits.◌>>=◌ front (λ l. Ok (y ∷ l)) else (if y then Ok [] else Err short)) (found_tail place tail (y ∷ b)))
+    go y true (Ok more) later = later ∙ found_tail-step place tail y b more
+    go y true (Err fault) later = later
+    go true false front later = rw (append-nil tail, add-zero place) refl
+    go false false front later = refl
+
+abbrev pub ok_some : List Bool → Result (Option (List Bool)) Fault
+ok_some l = Ok (Some l)
+
+-- the tail begins with no bits
+pub tail_begin : (place : ℕ) (b : List Bool) → read_end true place b ≡ rest_of_tail place [] b
+unfolding read_end take_tail
+tail_begin place b = sym (rest_of_tail-is place [] b ∙ go (before_last_one b))
+  where
+    go : (front : Result (List Bool) Fault)
+        → bits.◌>>=◌ front (found_tail place [] b)
+        ≡ bits.◌>>=◌ (bits.◌>>=◌ front (λ l. ok_some l)) (λ o. if same_bits b (end_bits place o) then Ok o else Err short)
+    go (Ok more) = refl
+    go (Err fault) = refl
+
+-- where more than the trailing bits is left, the next bit is one of the tail
+pub tail_turn : (place : ℕ) (tail b : List Bool) → more_data b ≡ true
+    → rest_of_tail place tail b ≡ bits.◌>>=◌ (take_bits 1 0 b) (λ x. rest_of_tail (place + 1) (tail ++ nat_eq x.0 1 ∷ []) x.1)
+unfolding rest_of_tail more_data take_bits
+tail_turn place tail [] h = cc
+tail_turn place tail (true ∷ b) h = rw h refl
+tail_turn place tail (false ∷ b) h = rw h refl
+
+-- where no more is left, the trailing bits follow or the payload is short
+pub same_of : (b c : List Bool) → b ≡ c → same_bits b c ≡ true
+same_of b c e = subst (λ l. same_bits b l ≡ true) e (same_bits-same b)
+
+list_differs : {x : Bool} {b : List Bool} → [] ≡ x ∷ b → ⊥
+list_differs e = grind arith
+
+pub some_trailing : (place : ℕ) → [] ≡ trailing_bits place → ⊥
+unfolding trailing_bits
+some_trailing place e = list_differs e
+
+pub tail_found : (place : ℕ) (tail b : List Bool) → more_data b ≡ false → b ≡ trailing_bits place → rest_of_tail place tail b ≡ Ok (Some tail)
+unfolding rest_of_tail more_data
+tail_found place tail [] h e = absurd (some_trailing place e)
+tail_found place tail (x ∷ b) h e = rw (h, same_of (x ∷ b) (trailing_bits place) e) refl
+
+pub differ : (b c : List Bool) → b ≢ c → same_bits b c ≡ false
+differ b c h = go (same_bits b c) refl
+  where
+    go : (x : Bool) → same_bits b c ≡ x → x ≡ false
+    go true e = absurd (h (same_bits-are b c e))
+    go false e = refl
+
+pub tail_missing : (place : ℕ) (tail b : List Bool) → more_data b ≡ false → b ≢ trailing_bits place → rest_of_tail place tail b ≡ Err short
+unfolding rest_of_tail more_data
+tail_missing place tail [] h e = refl
+tail_missing place tail (x ∷ b) h e = rw (h, differ (x ∷ b) (trailing_bits place) e) refl
+
+-- without a tail
+pub end_found : (place : ℕ) (b : List Bool) → b ≡ trailing_bits place → read_end false place b ≡ Ok None
+unfolding read_end take_tail
+end_found place b e = rw (add-zero place, same_of b (trailing_bits place) e) refl
+
+pub end_missing : (place : ℕ) (b : List Bool) → b ≢ trailing_bits place → read_end false place b ≡ Err short
+unfolding read_end take_tail
+end_missing place b e = rw (add-zero place, differ b (trailing_bits place) e) refl
+
+-- a payload is whole bytes
+pub payload-bytes : {A : Type 0} (p : Payload A) (v : A × Option (List Bool)) → length (payload_bits p v) % 8 ≡ 0
+payload-bytes p v =
+    let front : List Bool = bits_of p.fields v.0 ++ tail_bits v.1 in
+    rw (length-append front (trailing_bits (length front))) (length-trailing_bits (length front))
+
+-- ---- how far a reading moves
+-- n bits are taken
+pub taken_bits : (n : ℕ) (b : List Bool) (v : ℕ) (rest : List Bool) → take_bits n 0 b ≡ Ok (v, rest) → length b ≡ length rest + n
+taken_bits n b v rest e =
+    ap length (take_bits-printed n b v rest e).0 ∙ length-append (u_bits n v) rest ∙ ap (λ k. k + length rest) (length-u_bits n v) ∙ omega arith
+
+-- what is left behind a value is not longer
+pub rest_shorter : {A : Type 0} (t : Table A) (b : List Bool) (v : A) (rest : List Bool) → read t b ≡ Ok (v, rest) → length rest ≤ length b
+rest_shorter t b v rest e =
+    let bits : b ≡ bits_of t v ++ rest = (reads-read t b v rest e).1 in
+    subst (λ c. length rest ≤ length c) (sym bits) (rw (length-append (bits_of t v) rest) (omega arith))
+
+-- The lemmas for a call that reads the end of a payload.
+pub ruleset tail_steps = (tail_begin, tail_turn, tail_found, tail_missing, taken_bits)
