@@ -1,12 +1,12 @@
 -- What a writer's steps do to the bits written.
-use Rattle.std.proofs.Common.{◌≡◌, ℕ, suc, ◌+◌, ◌-◌, ◌*◌, ◌/◌, ◌%◌, ◌^◌, ◌<◌, ◌≤◌, Bool, true, false, replicate, List, [], ◌∷◌, ◌++◌, length, bit_and, bit_or, sym, ap, ap₂, ◌∙◌, arith, append_assoc, append-nil, length-append, take, take_all, mul_comm, zero, add-one, pow-suc, pow_mono}
-use Rattle.std.proofs.lemmas.List.{take-append-le}
-use Rattle.std.proofs.lemmas.Nat.{shr_split, shr_below, mod_below, pow_pos, pow-add, shl_whole, or_shifted, one_shl, and_mask, mul-add-lt}
+use Rattle.std.proofs.Common.{◌≡◌, ℕ, suc, ◌+◌, ◌-◌, ◌*◌, ◌/◌, ◌%◌, ◌^◌, ◌<◌, ◌≤◌, Bool, true, false, replicate, List, [], ◌∷◌, ◌++◌, length, bit_and, bit_or, sym, ap, ap₂, ◌∙◌, arith, append_assoc, append-nil, length-append, take, get_or, refl, mul_comm, zero, add-one, pow-suc, pow_mono}
+use Rattle.std.proofs.lemmas.List.{take-append-le, take_more, take_all}
+use Rattle.std.proofs.lemmas.Nat.{shr_split, mod_below, pow_pos, pow-add, shl_whole, or_shifted, one_shl, and_mask, mul-add-lt}
 use Rattle.mv_syntax.specs.Bits.{u_bits, ue_bits, align_bits, trailing_bits, byte_bits}
 use Rattle.mv_syntax.proofs.BitLaws.{u_bits-append, u_bits-ones, u_bits-zero, u_bits-one, ue_bits-number, length-u_bits, length-byte_bits}
 use Rattle.mv_bits.proofs.Codes.{exponent_lt}
 use Rattle.mv_bits.proofs.Endings.{trailing_bits-is}
-use Rattle.mv_bits.specs.Written.{written_bits}
+use Rattle.mv_bits.specs.Written.{written_bits, Extends}
 
 -- a byte more behind the bytes
 byte_bits-push : (bytes : List ℕ) (byte : ℕ) → byte_bits (bytes ++ byte ∷ []) ≡ byte_bits bytes ++ u_bits 8 byte
@@ -21,7 +21,7 @@ unfolding written_bits
 written_bits-moved bytes count word h =
     let low : word % 2 ^ count < 2 ^ count = mod_below word (2 ^ count) (pow_pos count) in
     let parts : u_bits (8 + count) word ≡ u_bits 8 (word / 2 ^ count) ++ u_bits count (word % 2 ^ count)
-        = ap (u_bits (8 + count)) (sym (shr_split word count)) ∙ u_bits-append 8 count (word / 2 ^ count) (word % 2 ^ count) low
+    = ap (u_bits (8 + count)) (sym (shr_split word count)) ∙ u_bits-append 8 count (word / 2 ^ count) (word % 2 ^ count) low
     in
     ap (λ b. b ++ u_bits count (word % 2 ^ count)) (byte_bits-push bytes (word / 2 ^ count))
     ∙ append_assoc (byte_bits bytes) (u_bits 8 (word / 2 ^ count)) (u_bits count (word % 2 ^ count))
@@ -51,15 +51,15 @@ pub record Pending (left word : ℕ) (bytes started : List ℕ) (before : ℕ) (
   pub long : before ≤ length bytes
   pub kept : take before bytes ≡ started
 
-pub Pending-started : (count last n value before : ℕ) (bytes : List ℕ) (old : List Bool) → count < 8 → n ≤ 64 → last < 2 ^ count → value < 2 ^ n → before ≡ length bytes → written_bits bytes count last ≡ old → Pending (count + n) (bit_or (last * 2 ^ n % 2 ^ 128) value) bytes bytes before (old ++ u_bits n value)
-Pending-started count last n value before bytes old narrow most h k len same =
+pub Pending-started : (count last n value before : ℕ) (bytes : List ℕ) → count < 8 → n ≤ 64 → last < 2 ^ count → value < 2 ^ n → before ≤ length bytes → Pending (count + n) (bit_or (last * 2 ^ n % 2 ^ 128) value) bytes (take before bytes) before (written_bits bytes count last ++ u_bits n value)
+Pending-started count last n value before bytes narrow most h k long =
     let word = started_word count last n value narrow most h k in
     record {
       narrow = omega arith;
       in_hand = rw word (started_word-lt count last n value h k);
-      written = ap (written_bits bytes (count + n)) word ∙ written_bits-more bytes count last n value k ∙ ap (λ b. b ++ u_bits n value) same;
-      long = omega arith;
-      kept = take_all before bytes (omega arith)
+      written = ap (written_bits bytes (count + n)) word ∙ written_bits-more bytes count last n value k;
+      long = long;
+      kept = refl;
     }
 
 pub Pending-moved : (left word before : ℕ) (bytes started more : List ℕ) (bits : List Bool) → Pending left word bytes started before bits → 8 ≤ left → more ≡ bytes ++ word / 2 ^ (left - 8) ∷ [] → Pending (left - 8) (bit_and word (1 * 2 ^ (left - 8) % 2 ^ 128 - 1)) more started before bits
@@ -69,18 +69,18 @@ Pending-moved left word before bytes started more bits h some pushed =
     let narrow : count < 128 = omega (arith, h.narrow) in
     let below : word < 2 ^ (8 + count) = rw parts h.in_hand in
     let mask : bit_and word (1 * 2 ^ count % 2 ^ 128 - 1) ≡ word % 2 ^ count
-        = ap (λ m. bit_and word (m - 1)) (one_shl count 128 narrow) ∙ and_mask word count
+    = ap (λ m. bit_and word (m - 1)) (one_shl count 128 narrow) ∙ and_mask word count
     in
     let long = h.long in
     record {
       narrow = omega (arith, h.narrow);
       in_hand = rw mask (mod_below word (2 ^ count) (pow_pos count));
       written = ap₂ (λ b w. written_bits b count w) pushed mask
-        ∙ written_bits-moved bytes count word below
-        ∙ ap (λ n. written_bits bytes n word) parts
-        ∙ h.written;
+          ∙ written_bits-moved bytes count word below
+          ∙ ap (λ n. written_bits bytes n word) parts
+          ∙ h.written;
       long = omega (arith, ap length pushed, length-append bytes (word / 2 ^ count ∷ []));
-      kept = ap (take before) pushed ∙ take-append-le before bytes (word / 2 ^ count ∷ []) long ∙ h.kept
+      kept = ap (take before) pushed ∙ take-append-le before bytes (word / 2 ^ count ∷ []) long ∙ h.kept;
     }
 
 pub written_bits-none : (bytes : List ℕ) → bytes ≡ [] → written_bits bytes 0 0 ≡ []
@@ -134,3 +134,38 @@ ue_bits-printed value z number e low high range =
 pub ue_bits-fits : (value z number : ℕ) → number ≡ value + 1 → value + 1 < 2 * 2 ^ z → number < 2 ^ (2 * z + 1)
 ue_bits-fits value z number e high =
     let more : suc z ≤ 2 * z + 1 = omega arith in omega (arith, pow-suc 2 z, pow_mono more)
+
+-- ---- one writer behind another
+pub Extends-started : (before count word : ℕ) (bytes : List ℕ) (old : List Bool) → before ≤ length bytes → count < 8 → word < 2 ^ count → written_bits bytes count word ≡ old → Extends before bytes bytes (old ++ byte_bits []) (word, count)
+unfolding byte_bits
+Extends-started before count word bytes old long narrow h same = record {
+  written = same ∙ sym (append-nil old);
+  narrow = narrow;
+  in_hand = h;
+  long = long;
+  kept = refl;
+}
+
+pub Extends-byte : (before i value : ℕ) (started mid new xs : List ℕ) (old : List Bool) (last next : ℕ × ℕ) → Extends before started mid (old ++ byte_bits (take i xs)) last → Extends before mid new (written_bits mid last.1 last.0 ++ u_bits 8 value) next → i < length xs → value ≡ get_or xs i 0 → Extends before started new (old ++ byte_bits (take (i + 1) xs)) next
+Extends-byte before i value started mid new xs old last next h k inside is =
+    let more : byte_bits (take (i + 1) xs) ≡ byte_bits (take i xs) ++ u_bits 8 value
+    = ap byte_bits (take_more xs i 0 inside) ∙ byte_bits-push (take i xs) (get_or xs i 0) ∙ ap (λ b. byte_bits (take i xs) ++ u_bits 8 b) (sym is)
+    in
+    record {
+      written = k.written
+          ∙ ap (λ b. b ++ u_bits 8 value) h.written
+          ∙ append_assoc old (byte_bits (take i xs)) (u_bits 8 value)
+          ∙ ap (λ b. old ++ b) (sym more);
+      narrow = k.narrow;
+      in_hand = k.in_hand;
+      long = k.long;
+      kept = k.kept ∙ h.kept;
+    }
+
+pub Extends-ended : (before i count word : ℕ) (started mid new xs : List ℕ) (old other : List Bool) (last next : ℕ × ℕ) → Extends before started mid (old ++ byte_bits (take i xs)) last → Extends before mid new (written_bits mid last.1 last.0 ++ u_bits count word) next → length xs ≤ i → written_bits xs count word ≡ other → written_bits new next.1 next.0 ≡ old ++ other
+unfolding written_bits
+Extends-ended before i count word started mid new xs old other last next h k outside same =
+    k.written
+    ∙ ap (λ b. b ++ u_bits count word) (h.written ∙ ap (λ b. old ++ byte_bits b) (take_all i xs outside))
+    ∙ append_assoc old (byte_bits xs) (u_bits count word)
+    ∙ ap (λ b. old ++ b) same

@@ -1,5 +1,6 @@
-ghost use Rattle.std.specs.Prelude.{◌≡◌, ◌≤◌, ◌<◌, ◌^◌, ◌%◌, ◌+◌, ◌-◌, ◌++◌, ℕ, [], take, length, OnOk, OnErr, negsuc, ◌<ℤ◌};
+ghost use Rattle.std.specs.Prelude.{◌≡◌, ◌≤◌, ◌<◌, ◌^◌, ◌%◌, ◌+◌, ◌-◌, ◌++◌, [], take, length, vec_len, IfOk, OnOk, OnErr, negsuc, ◌<ℤ◌};
 ghost use Rattle.mv_syntax.specs.Bits.{u_bits, ue_bits, se_bits, se_code, align_bits, trailing_bits, byte_bits};
+ghost use Rattle.mv_bits.specs.Written.{written_bits, Extends};
 
 use std::alloc::{AllocError, Global};
 use std::marker::Model;
@@ -53,18 +54,9 @@ impl BitWriter {
         ensures err { OnErr result (self.new ≡ self.old) }
     {
         let before = self.bytes.len();
-        let mut left = self.count + n;
-        let mut word = u128::from(self.word) << n | u128::from(value);
-        'bytes: while left >= 8 {
-            left -= 8;
-            if self.bytes.push((word >> left) as u8).is_err() {
-                self.bytes.truncate(before);
-                return Err(AllocError);
-            }
-            word &= (1 << left) - 1;
-        }
-        self.word = word as u8;
-        self.count = left;
+        let last = put(&mut self.bytes, before, (self.word, self.count), n, value)?;
+        self.word = last.0;
+        self.count = last.1;
         Ok(())
     }
 
@@ -108,16 +100,25 @@ impl BitWriter {
     }
 
     /// Appends the bits of another writer.
-    ///
-    /// After `AllocError` a prefix of them is appended.
     pub fn append(&mut self, other: &BitWriter) -> Result<(), AllocError>
         ensures ok { OnOk result (self.new ≡ self.old ++ other.now) }
-        ensures err { OnErr result ((n : ℕ) × (self.new ≡ self.old ++ take n other.now)) }
+        ensures err { OnErr result (self.new ≡ self.old) }
     {
+        let before = self.bytes.len();
+        let mut last = (self.word, self.count);
         for byte in &other.bytes {
-            self.u(8, u64::from(*byte))?;
+            last = put(&mut self.bytes, before, last, 8, u64::from(*byte))?;
         }
-        self.u(other.count, u64::from(other.word))
+        last = put(
+            &mut self.bytes,
+            before,
+            last,
+            other.count,
+            u64::from(other.word),
+        )?;
+        self.word = last.0;
+        self.count = last.1;
+        Ok(())
     }
 
     /// The bytes written, where the last is whole.
@@ -127,6 +128,34 @@ impl BitWriter {
     {
         self.bytes
     }
+}
+
+// Appends the `n` bits of `value` behind the bytes and `last`, which is a number and its count of bits. Answers what
+// stands behind the bytes then. Where a byte finds no memory, only the first `before` bytes stay.
+fn put(
+    bytes: &mut Vec<u8>,
+    before: usize,
+    last: (u8, u8),
+    n: u8,
+    value: u64,
+) -> Result<(u8, u8), AllocError>
+    requires begun { (last.1 < 8) × (last.0 < 2 ^ last.1) }
+    requires in_range { (n ≤ 64) × (value < 2 ^ n) }
+    requires long { before ≤ vec_len bytes.old }
+    ensures ok { IfOk result (Extends before bytes.old.items bytes.new.items (written_bits bytes.old.items last.1 last.0 ++ u_bits n value)) }
+    ensures err { OnErr result (bytes.new.items ≡ take before bytes.old.items) }
+{
+    let mut left = last.1 + n;
+    let mut word = u128::from(last.0) << n | u128::from(value);
+    'bytes: while left >= 8 {
+        left -= 8;
+        if bytes.push((word >> left) as u8).is_err() {
+            bytes.truncate(before);
+            return Err(AllocError);
+        }
+        word &= (1 << left) - 1;
+    }
+    Ok((word as u8, left))
 }
 
 // The ue(v) value that stands for a number in se(v) (9.2.2).

@@ -1,4 +1,4 @@
-use Rattle.std.proofs.Common.{◌≡◌, ◌∙◌, ap, nat_abs, to_z-of_z, SFits, w32, rules, arith}
+use Rattle.std.proofs.Common.{◌∙◌, ap, nat_abs, to_z-of_z, SFits, w32, rules, arith}
 use Rattle.std.proofs.lemmas.Int.{ints}
 use Rattle.mv_bits.proofs.Readings.{unsigned_positive, unsigned_other}
 use Rattle.mv_bits.proofs.writer.unsigned.Goals as goal

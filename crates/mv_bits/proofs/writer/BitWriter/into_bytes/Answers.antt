@@ -1,4 +1,4 @@
-use Rattle.std.proofs.Common.{◌∙◌, ◌≡◌, ◌%◌, List, Bool, length, ap, sym}
+use Rattle.std.proofs.Common.{◌∙◌, ◌%◌, List, Bool, length, ap}
 use Rattle.mv_bits.proofs.Written.{written_bits-whole}
 use Rattle.mv_bits.proofs.writer.BitWriter.into_bytes.Goals as goal
 

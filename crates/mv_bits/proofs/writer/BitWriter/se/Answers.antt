@@ -1,6 +1,6 @@
-use Rattle.std.proofs.Common.{◌≡◌, ◌∙◌, ◌<ℤ◌, ◌^◌, pos, ap, sym, arith, rules, SFits, w32, to_z-of_z}
+use Rattle.std.proofs.Common.{◌≡◌, ◌∙◌, ◌<ℤ◌, ◌^◌, pos, ap, arith, rules, SFits, w32, to_z-of_z}
 use Rattle.std.proofs.lemmas.Int.{ints}
-use Rattle.mv_syntax.specs.Bits.{se_code, ue_bits, se_bits}
+use Rattle.mv_syntax.specs.Bits.{se_code, se_bits}
 use Rattle.mv_syntax.proofs.BitLaws.{se_code-range}
 use Rattle.mv_bits.proofs.writer.BitWriter.se.Goals as goal
 
