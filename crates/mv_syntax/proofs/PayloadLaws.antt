@@ -322,5 +322,13 @@ rest_shorter t b v rest e =
     let bits : b ≡ bits_of t v ++ rest = (reads-read t b v rest e).1 in
     subst (λ c. length rest ≤ length c) (sym bits) (rw (length-append (bits_of t v) rest) (omega arith))
 
+-- a bit of the tail is taken, and the place moves by one
+pub tail_next : (total : ℕ) (tail b : List Bool) (v : ℕ) (rest : List Bool) → more_data b ≡ true → take_bits 1 0 b ≡ Ok (v, rest) → length b ≤ total
+  → rest_of_tail (total - length b) tail b ≡ rest_of_tail (total - length rest) (tail ++ nat_eq v 1 ∷ []) rest
+tail_next total tail b v rest more e room =
+    let taken : length b ≡ length rest + 1 = taken_bits 1 b v rest e in
+    let place : total - length b + 1 ≡ total - length rest = omega arith in
+    tail_turn (total - length b) tail b more ∙ rw (e, place) refl
+
 -- The lemmas for a call that reads the end of a payload.
 pub ruleset tail_steps = (tail_begin, tail_turn, tail_found, tail_missing, taken_bits)
