@@ -1,3 +1,4 @@
+pub mod AlignLaws
 pub mod AnswerLaws
 pub mod BitLaws
 pub mod LineLaws
