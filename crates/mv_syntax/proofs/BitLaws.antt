@@ -93,7 +93,7 @@ u_bits-leading n v low high =
     let below : rest < 2 ^ n = omega (arith, pow-suc 2 n) in
     let parts : 1 * 2 ^ n + rest ≡ v = omega arith in
     let top : bit_at v n ≡ 1
-        = ap (λ w. bit_at w n) (sym parts) ∙ ap (λ q. q % 2) (shr_high 1 n rest below)
+    = ap (λ w. bit_at w n) (sym parts) ∙ ap (λ q. q % 2) (shr_high 1 n rest below)
     in
     ap₂ (λ x b. nat_eq x 1 ∷ b)
     top
@@ -459,6 +459,11 @@ unfolding byte_bits
 length-byte_bits [] = refl
 length-byte_bits (byte ∷ bytes) =
     omega (arith, length-append (u_bits 8 byte) (byte_bits bytes), length-u_bits 8 byte, length-byte_bits bytes)
+
+-- after alignment the place is at the end of its byte
+pub length-align_bits : (x : Bool) (place : ℕ) → (place + length (align_bits x place)) % 8 ≡ 0
+unfolding align_bits
+length-align_bits x place = omega (arith, length-replicate ((8 - place % 8) % 8) x)
 
 -- after trailing bits the place is at the end of its byte
 pub length-trailing_bits : (place : ℕ) → (place + length (trailing_bits place)) % 8 ≡ 0
