@@ -4,7 +4,7 @@ use Rattle.std.proofs.lemmas.List.{take_more, take_all, length-take-le}
 use Rattle.mv_syntax.specs.Bits.{Fault, kept}
 use Rattle.mv_syntax.specs.Bits as bits
 use Rattle.mv_syntax.specs.Table.{Table, read, read_each, put, put_each, Valid, EachValid}
-use Rattle.mv_syntax.specs.Loops.{unzipped, both_lists, items, items_after, columns, columns_after, turns_of_items, turns_of_columns, rest_of_items, rest_of_items_after, rest_of_columns, rest_of_columns_after}
+use Rattle.mv_syntax.specs.Loops.{unzipped, both_lists, items, items_after, items_numbered, columns, columns_after, turns_of_items, turns_of_columns, rest_of_items, rest_of_items_after, rest_of_columns, rest_of_columns_after}
 
 -- ---- the loop as a whole is what its turns read
 pub next_index : {A : Type 0} (first i : ℕ) (before : List A) (x : A) → i ≡ first + length before → i + 1 ≡ first + length (before ++ x ∷ [])
@@ -250,8 +250,49 @@ columns-valid t first n ones others i j d e h k same =
     let index : first + length (take i pairs) ≡ j = ap (λ m. first + m) (length-take-le i pairs (omega arith)) ∙ sym same in
     subst (λ v. Valid (t j) v) at.1 (subst (λ m. Valid (t m) (get_or pairs i (d, e))) index here)
 
+-- ---- a loop with a numbering of its own
+pub turn_each : {A : Type 0} (t : ℕ → Table A) (n i : ℕ) (before : List A) (b : List Bool) → i ≡ length before
+    → read_each (λ so_far c. read (t (length so_far)) c) n before b ≡ turns_of_items (λ j _. t j) n i before b
+turn_each t zero i before b e = refl
+turn_each t (suc n) i before b e =
+    rw (← e)
+    (ap (bits.◌>>=◌ (read (t i) b))
+    (λ k x. turn_each t n (i + 1) (before ++ x.0 ∷ []) x.1 (rw (length-append before (x.0 ∷ [])) (omega arith)) k))
+
+pub items_numbered_begin : {A : Type 0} (index : ℕ → ℕ) (t : ℕ → Table A) (n : ℕ) (b : List Bool) → read (items_numbered index n t) b ≡ rest_of_items t 0 n [] b
+unfolding items_numbered rest_of_items
+items_numbered_begin index t n b =
+    let count : n - 0 ≡ n = omega arith in
+    rw count (turn_each t n 0 [] b refl)
+
+pub put_items_numbered_turn : {A : Type 0} (index : ℕ → ℕ) (t : ℕ → Table A) (n : ℕ) (vs : List A) (i : ℕ) (d : A) (out : List Bool) → i < length vs
+    → put (items_numbered index n t) (take (i + 1) vs) out ≡ put (t i) (get_or vs i d) (put (items_numbered index n t) (take i vs) out)
+unfolding items_numbered
+put_items_numbered_turn index t n vs i d out h =
+    put_each-turn (λ before v c. put (t (length before)) v c) vs i d out h ∙ rw (length-take-le i vs (omega arith)) refl
+
+pub put_items_numbered_begin : {A : Type 0} (index : ℕ → ℕ) (t : ℕ → Table A) (n : ℕ) (out : List Bool) → put (items_numbered index n t) [] out ≡ out
+unfolding items_numbered
+put_items_numbered_begin index t n out = refl
+
+pub put_items_numbered_done : {A : Type 0} (index : ℕ → ℕ) (t : ℕ → Table A) (n : ℕ) (vs : List A) (i : ℕ) (out : List Bool) → length vs ≤ i
+    → put (items_numbered index n t) (take i vs) out ≡ put (items_numbered index n t) vs out
+put_items_numbered_done index t n vs i out h = rw (take_all i vs h) refl
+
+pub items_numbered-length : {A : Type 0} (index : ℕ → ℕ) (t : ℕ → Table A) (n : ℕ) (vs : List A) → Valid (items_numbered index n t) vs → length vs ≡ n
+unfolding items_numbered
+items_numbered-length index t n vs h = h.0
+
+pub items_numbered-valid : {A : Type 0} (index : ℕ → ℕ) (t : ℕ → Table A) (n : ℕ) (vs : List A) (i : ℕ) (d : A) → Valid (items_numbered index n t) vs → i < length vs
+    → Valid (t i) (get_or vs i d)
+unfolding items_numbered
+items_numbered-valid index t n vs i d h k =
+    subst (λ m. Valid (t m) (get_or vs i d)) (length-take-le i vs (omega arith)) (each-valid (λ before v. Valid (t (length before)) v) [] vs i d h.1 k)
+
+pub ruleset put_numbered_steps = (put_items_numbered_begin, put_items_numbered_turn, put_items_numbered_done, items_numbered-length, items_numbered-valid)
+
 -- The lemmas for a loop that reads one list, or two: how it begins, a turn, and the end.
-pub ruleset item_steps = (items_begin, items_turn, items_done, items_after_begin, items_after_turn, items_after_done)
+pub ruleset item_steps = (items_begin, items_numbered_begin, items_turn, items_done, items_after_begin, items_after_turn, items_after_done)
 
 pub ruleset column_steps = (columns_begin, columns_turn, columns_done, columns_after_begin, columns_after_turn, columns_after_done)
 
