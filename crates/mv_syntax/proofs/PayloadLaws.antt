@@ -1,9 +1,10 @@
 -- The laws of whole payloads: the reader answers a value exactly where it reads, and a rule exactly where it cuts.
-use Rattle.std.proofs.Common.{◌≡◌, ℕ, zero, suc, ◌+◌, ◌-◌, ◌≤◌, ◌<◌, Bool, true, false, List, [], ◌∷◌, ◌++◌, length, replicate, Option, Some, None, is_some, Result, Ok, Err, ◌⊎◌, if◌then◌else◌, nat_lt, refl, sym, ap, ◌∙◌, subst, inl, inr, append_assoc, arith, length-append}
+use Rattle.std.proofs.Common.{◌≡◌, ℕ, zero, suc, ◌+◌, ◌-◌, ◌*◌, ◌≤◌, ◌<◌, Bool, true, false, cond, ◌||◌, List, [], ◌∷◌, ◌++◌, length, replicate, Option, Some, None, is_some, Result, Ok, Err, ◌⊎◌, if◌then◌else◌, nat_lt, refl, sym, ap, ◌∙◌, subst, inl, inr, append_assoc, arith, length-append, lt_irrefl, lt_of_not-le}
 use Rattle.mv_syntax.specs.Bits.{Fault, short, breaks, align_bits, trailing_bits, has_one, to_byte_end}
 use Rattle.mv_syntax.specs.Bits as bits
-use Rattle.mv_syntax.specs.Table.{Valid, bits_of, Cut, read}
-use Rattle.mv_syntax.specs.Payload.{size_limit, Payload, tail_bits, payload_bits, ReadsPayload, CutPayload, before_last_one, take_tail, same_bits, read_end, read_payload, PayloadExactlyOne, PayloadRoundTrips}
+use Rattle.mv_syntax.specs.Table.{Table, Valid, bits_of, Reads, Cut, read}
+use Rattle.mv_syntax.specs.Laws.{ExactlyOneOf}
+use Rattle.mv_syntax.specs.Payload.{size_limit, Payload, tail_bits, payload_bits, ValidPayload, ReadsPayload, CutPayload, before_last_one, take_tail, same_bits, read_end, read_payload, PayloadExactlyOne, PayloadRoundTrips}
 use Rattle.mv_syntax.proofs.TableLaws.{behind-count, ok_value, bind-ok, bind-err, read-ok, reads-read, read-cut, cut-read, ok_err, err_fault, breaks-same, short-breaks, Answered, one_of_three}
 
 -- ---- the last set bit
@@ -31,9 +32,9 @@ before_last_one-failed [] fault e = cc
 before_last_one-failed (x ∷ b) fault e = go (has_one b) x (before_last_one b) e (before_last_one-failed b fault)
   where
     go :
-        (some y : Bool) (tail : Result (List Bool) Fault)
-        → Path (Result (List Bool) Fault) (if some then bits.◌>>=◌ tail (λ l. Ok (x ∷ l)) else (if y then Ok [] else Err short)) (Err fault)
-        → (tail ≡ Err fault → fault ≡ short) → fault ≡ short
+      (some y : Bool) (tail : Result (List Bool) Fault)
+      → Path (Result (List Bool) Fault) (if some then bits.◌>>=◌ tail (λ l. Ok (x ∷ l)) else (if y then Ok [] else Err short)) (Err fault)
+      → (tail ≡ Err fault → fault ≡ short) → fault ≡ short
     go true y (Ok l) h later = cc
     go true y (Err other) h later = later h
     go false true tail h later = cc
@@ -107,15 +108,15 @@ unfolding read_end
 read_end-failed c place b fault e = go (bind-err (take_tail c b) (λ o. if same_bits b (end_bits place o) then Ok o else Err short) fault e)
   where
     go :
-        (take_tail c b ≡ Err fault) ⊎ ((o : Option (List Bool)) × (take_tail c b ≡ Ok o) × (Path (Result (Option (List Bool)) Fault) (if same_bits b (end_bits place o) then Ok o else Err short) (Err fault)))
-        → fault ≡ short
+      (take_tail c b ≡ Err fault) ⊎ ((o : Option (List Bool)) × (take_tail c b ≡ Ok o) × (Path (Result (Option (List Bool)) Fault) (if same_bits b (end_bits place o) then Ok o else Err short) (Err fault)))
+      → fault ≡ short
     go (inl h) = take_tail-failed c b fault h
     go (inr (o, there, h)) = untested (same_bits b (end_bits place o)) o fault h
 
 -- ---- whole payloads
 -- the printed payload, as the reader meets it
 pub payload-parts : {A : Type 0} (p : Payload A) (v : A × Option (List Bool))
-    → payload_bits p v ≡ bits_of p.fields v.0 ++ end_bits (length (bits_of p.fields v.0)) v.1
+  → payload_bits p v ≡ bits_of p.fields v.0 ++ end_bits (length (bits_of p.fields v.0)) v.1
 payload-parts p v =
     let own : List Bool = bits_of p.fields v.0 in
     let tail : List Bool = tail_bits v.1 in
@@ -149,24 +150,23 @@ unfolding read_payload
 reads-read_payload {A} p b v e = go (nat_lt size_limit (length b)) refl e
   where
     go : (c : Bool) → nat_lt size_limit (length b) ≡ c
-        → Path (Result (A × Option (List Bool)) Fault) (if c then Err (breaks p.size_rule) else bits.◌>>=◌ (read p.fields b) (λ x. bits.◌>>=◌ (read_end (p.has_tail x.0) (length b - length x.1) x.1) (λ tail. Ok (x.0, tail)))) (Ok v)
-        → ReadsPayload p b v
+      → Path (Result (A × Option (List Bool)) Fault) (if c then Err (breaks p.size_rule) else bits.◌>>=◌ (read p.fields b) (λ x. bits.◌>>=◌ (read_end (p.has_tail x.0) (length b - length x.1) x.1) (λ tail. Ok (x.0, tail)))) (Ok v)
+      → ReadsPayload p b v
     go true size h = cc
     go false size h =
-        let (x, first, second) = bind-ok (read p.fields b) (λ x. bits.◌>>=◌ (read_end (p.has_tail x.0) (length b - length x.1) x.1) (λ tail. Ok (x.0, tail))) v h in
-        let (tail, there, last) = bind-ok (read_end (p.has_tail x.0) (length b - length x.1) x.1) (λ o. Ok (x.0, o)) v second in
-        let fields : Valid p.fields x.0 × (b ≡ bits_of p.fields x.0 ++ x.1) = reads-read p.fields b x.0 x.1 first in
-        let own : List Bool = bits_of p.fields x.0 in
-        let count : length b - length x.1 ≡ length own = ap (λ c. length c - length x.1) fields.1 ∙ behind-count own x.1 in
-        let stood : (is_some tail ≡ p.has_tail x.0) × (x.1 ≡ end_bits (length own) tail) =
+      let (x, first, second) = bind-ok (read p.fields b) (λ x. bits.◌>>=◌ (read_end (p.has_tail x.0) (length b - length x.1) x.1) (λ tail. Ok (x.0, tail))) v h in
+      let (tail, there, last) = bind-ok (read_end (p.has_tail x.0) (length b - length x.1) x.1) (λ o. Ok (x.0, o)) v second in
+      let fields : Valid p.fields x.0 × (b ≡ bits_of p.fields x.0 ++ x.1) = reads-read p.fields b x.0 x.1 first in
+      let own : List Bool = bits_of p.fields x.0 in
+      let count : length b - length x.1 ≡ length own = ap (λ c. length c - length x.1) fields.1 ∙ behind-count own x.1 in
+      let stood : (is_some tail ≡ p.has_tail x.0) × (x.1 ≡ end_bits (length own) tail) =
         read_end-stood (p.has_tail x.0) (length own) x.1 tail (sym (ap (λ n. read_end (p.has_tail x.0) n x.1) count) ∙ there) in
-        let printed : b ≡ payload_bits p (x.0, tail) = fields.1 ∙ ap (λ c. own ++ c) stood.1 ∙ sym (payload-parts p (x.0, tail)) in
-        let P : A × Option (List Bool) → Type 0 = ReadsPayload p b in
-        subst P (ok_value (x.0, tail) v last)
+      let printed : b ≡ payload_bits p (x.0, tail) = fields.1 ∙ ap (λ c. own ++ c) stood.1 ∙ sym (payload-parts p (x.0, tail)) in
+      let P : A × Option (List Bool) → Type 0 = ReadsPayload p b in
+      subst P (ok_value (x.0, tail) v last)
         (record {
           valid = record { fields = fields.0; tail = stood.0; size = subst (λ c. length c ≤ size_limit) printed (is-le size_limit (length b) size) };
-          bits = printed;
-        })
+          bits = printed })
 
 pub read_payload-cut : {A : Type 0} (p : Payload A) (b : List Bool) (r : ℕ) → CutPayload p b r → read_payload p b ≡ Err (breaks r)
 unfolding read_payload
@@ -178,33 +178,27 @@ unfolding read_payload
 cut-read_payload {A} p b r e = go (nat_lt size_limit (length b)) refl e
   where
     after : (x : A × List Bool) → Path (Result (A × Option (List Bool)) Fault) (bits.◌>>=◌ (read_end (p.has_tail x.0) (length b - length x.1) x.1) (λ tail. Ok (x.0, tail))) (Err (breaks r)) → ⊥
-    after x h = elim (bind-err (read_end (p.has_tail x.0) (length b - length x.1) x.1) (λ o. Ok (x.0, o)) (breaks r) h) as (λ _. ⊥) [
-      | inl failed ↦ short-breaks r (read_end-failed (p.has_tail x.0) (length b - length x.1) x.1 (breaks r) failed)
-      | inr found ↦ ok_err (x.0, found.0) (breaks r) found.2
-    ]
-
+    after x h = elim (bind-err (read_end (p.has_tail x.0) (length b - length x.1) x.1) (λ o. Ok (x.0, o)) (breaks r) h) as (λ _. ⊥)
+      [ inl failed ↦ short-breaks r (read_end-failed (p.has_tail x.0) (length b - length x.1) x.1 (breaks r) failed)
+      | inr found ↦ ok_err (x.0, found.0) (breaks r) found.2 ]
     fields : (read p.fields b ≡ Err (breaks r)) ⊎ ((x : A × List Bool) × (read p.fields b ≡ Ok x) × (Path (Result (A × Option (List Bool)) Fault) (bits.◌>>=◌ (read_end (p.has_tail x.0) (length b - length x.1) x.1) (λ tail. Ok (x.0, tail))) (Err (breaks r))))
-        → Cut p.fields b r
+      → Cut p.fields b r
     fields (inl h) = cut-read p.fields b r h
     fields (inr (x, first, h)) = absurd (after x h)
-
     go : (c : Bool) → nat_lt size_limit (length b) ≡ c
-        → Path (Result (A × Option (List Bool)) Fault) (if c then Err (breaks p.size_rule) else bits.◌>>=◌ (read p.fields b) (λ x. bits.◌>>=◌ (read_end (p.has_tail x.0) (length b - length x.1) x.1) (λ tail. Ok (x.0, tail)))) (Err (breaks r))
-        → CutPayload p b r
+      → Path (Result (A × Option (List Bool)) Fault) (if c then Err (breaks p.size_rule) else bits.◌>>=◌ (read p.fields b) (λ x. bits.◌>>=◌ (read_end (p.has_tail x.0) (length b - length x.1) x.1) (λ tail. Ok (x.0, tail)))) (Err (breaks r))
+      → CutPayload p b r
     go true size h = inl (is-lt size_limit (length b) size, sym (breaks-same p.size_rule r (err_fault (breaks p.size_rule) (breaks r) h)))
     go false size h =
-        inr (
-          is-le size_limit (length b) size,
-          fields (bind-err (read p.fields b) (λ x. bits.◌>>=◌ (read_end (p.has_tail x.0) (length b - length x.1) x.1) (λ tail. Ok (x.0, tail))) (breaks r) h),
-        )
+      inr (is-le size_limit (length b) size,
+        fields (bind-err (read p.fields b) (λ x. bits.◌>>=◌ (read_end (p.has_tail x.0) (length b - length x.1) x.1) (λ tail. Ok (x.0, tail))) (breaks r) h))
 
 pub payload_answered : {A : Type 0} (p : Payload A) (b : List Bool) → Answered (read_payload p b) (ReadsPayload p b) (CutPayload p b)
 payload_answered p b = record {
   value = λ v h. read_payload-reads p b v h;
   is_value = λ v e. reads-read_payload p b v e;
   rule = λ r h. read_payload-cut p b r h;
-  is_rule = λ r e. cut-read_payload p b r e;
-}
+  is_rule = λ r e. cut-read_payload p b r e }
 
 pub payload_exactly_one : {A : Type 0} (p : Payload A) (b : List Bool) → PayloadExactlyOne p b
 payload_exactly_one p b = one_of_three (read_payload p b) (ReadsPayload p b) (CutPayload p b) (payload_answered p b)
@@ -212,5 +206,4 @@ payload_exactly_one p b = one_of_three (read_payload p b) (ReadsPayload p b) (Cu
 pub payload_round_trips : {A : Type 0} (p : Payload A) → PayloadRoundTrips p
 payload_round_trips p = record {
   written_reads = λ v h. read_payload-reads p (payload_bits p v) v (record { valid = h; bits = refl });
-  read_writes = λ b v e. let h : ReadsPayload p b v = reads-read_payload p b v e in (h.valid, h.bits);
-}
+  read_writes = λ b v e. let h : ReadsPayload p b v = reads-read_payload p b v e in (h.valid, h.bits) }

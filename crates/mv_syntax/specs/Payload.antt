@@ -1,8 +1,8 @@
 -- Whole payloads: the size limit, a table, an opaque tail where the table's value says so, and the trailing bits.
-use Rattle.std.specs.Prelude.{◌≡◌, ℕ, ◌+◌, ◌-◌, ◌*◌, ◌≤◌, ◌<◌, Bool, true, false, List, [], ◌∷◌, ◌++◌, length, Option, Some, None, is_some, Result, Ok, Err, ◌⊎◌, if◌then◌else◌, nat_lt}
+use Rattle.std.specs.Prelude.{◌≡◌, ℕ, ◌+◌, ◌-◌, ◌*◌, ◌≤◌, ◌<◌, Bool, true, false, cond, List, [], ◌∷◌, ◌++◌, length, Option, Some, None, is_some, Result, Ok, Err, ◌⊎◌, if◌then◌else◌, nat_lt}
 use Rattle.mv_syntax.specs.Bits.{Fault, short, breaks, trailing_bits, has_one}
 use Rattle.mv_syntax.specs.Bits as bits
-use Rattle.mv_syntax.specs.Table.{Table, Valid, bits_of, Cut, read}
+use Rattle.mv_syntax.specs.Table.{Table, Valid, bits_of, Reads, Cut, read}
 use Rattle.mv_syntax.specs.Laws.{ExactlyOneOf}
 
 -- The greatest payload of a parameter set, in bits: 65,536 bytes (this project's profile).
