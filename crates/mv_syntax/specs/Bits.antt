@@ -1,6 +1,6 @@
 -- The bit codes of H.265 (7.2, 7.3.2.11, 9.2): each as the bits that it prints, and as what it takes from the
 -- front of a list of bits. A list of bits has the most significant bit, which is the first read, at its head.
-use Rattle.std.specs.Prelude.{◌≡◌, ℕ, zero, suc, ◌+◌, ◌-◌, ◌*◌, ◌/◌, ◌%◌, ◌^◌, ◌<◌, ◌≤◌, ◌⊎◌, Bool, true, false, cond, ◌||◌, nat_eq, nat_lt, List, [], ◌∷◌, ◌++◌, length, replicate, ℤ, pos, negsuc, neg_ℤ, Result, Ok, Err}
+use Rattle.std.specs.Prelude.{◌≡◌, ℕ, zero, suc, ◌+◌, ◌-◌, ◌*◌, ◌/◌, ◌%◌, ◌^◌, ◌<◌, ◌⊎◌, Bool, true, false, cond, ◌||◌, nat_eq, nat_lt, List, [], ◌∷◌, ◌++◌, length, replicate, ℤ, pos, negsuc, neg_ℤ, Result, Ok, Err}
 
 -- Why bits cannot be read: they end in a field or hold no code, or they break the rule of this number.
 pub data Fault : Type 0 where
@@ -47,12 +47,12 @@ ue_zeros v = halvings 31 (v + 1)
 unfoldable pub ue_bits : ℕ → List Bool
 ue_bits v = replicate (ue_zeros v) false ++ true ∷ u_bits (ue_zeros v) (v + 1 - 2 ^ ue_zeros v)
 
--- The value of a code after its first `zeros` zeros, where at most `most` more may come (9.2).
+-- The value of a code after its first `leading` zeros, where at most `most` more may come (9.2).
 unfoldable pub take_ue_from : ℕ → ℕ → List Bool → Result (ℕ × List Bool) Fault
-take_ue_from most zeros [] = Err short
-take_ue_from most zeros (true ∷ b) = kept (λ low. 2 ^ zeros - 1 + low) (take_bits zeros 0 b)
-take_ue_from zero zeros (false ∷ b) = Err short
-take_ue_from (suc most) zeros (false ∷ b) = take_ue_from most (suc zeros) b
+take_ue_from most leading [] = Err short
+take_ue_from most leading (true ∷ b) = kept (λ low. 2 ^ leading - 1 + low) (take_bits leading 0 b)
+take_ue_from zero leading (false ∷ b) = Err short
+take_ue_from (suc most) leading (false ∷ b) = take_ue_from most (suc leading) b
 
 -- The value of the ue(v) code at the front, of at most 31 zeros, and the bits behind it (9.2).
 unfoldable pub take_ue : List Bool → Result (ℕ × List Bool) Fault
