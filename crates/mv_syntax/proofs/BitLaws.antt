@@ -7,7 +7,7 @@ use Rattle.std.proofs.lemmas.List.{length-replicate}
 use Rattle.std.specs.Int.{bit_at}
 use Rattle.std.proofs.lemmas.Nat.{mod-pow-add, shr_split, shr_high, pow_pos}
 use Rattle.std.proofs.lemmas.Nat.Bits.{bit_at_cat_low, bit_at_cat_high}
-use Rattle.mv_syntax.specs.Bits.{Fault, short, kept, bit, u_bits, take_bits, halvings, ue_zeros, ue_bits, take_ue_from, take_ue, HasNoUe, se_value, se_code, se_bits, take_se, align_bits, trailing_bits, byte_bits}
+use Rattle.mv_syntax.specs.Bits.{Fault, short, ◌>>=◌, kept, bit, u_bits, take_bits, halvings, ue_zeros, ue_bits, take_ue_from, take_ue, HasNoUe, se_value, se_code, se_bits, take_se, align_bits, trailing_bits, byte_bits}
 
 -- a reading has one value
 pub same_ok : {A : Type 0} {r : Result A Fault} {x y : A} → r ≡ Ok x → r ≡ Ok y → x ≡ y
@@ -138,6 +138,22 @@ take_bits-high n high b =
           let e : high * 2 ^ n + w % 2 ^ n ≡ high * 2 ^ n + w = omega (arith, mod-eq_of_lt h) in
           rw (same, take_bits-after n w high left, take_bits-u_bits n w left h, e) refl
     ]
+
+-- m bits and then n bits read as the m + n bits of one number
+take_bits-after_bits : (m n high : ℕ) (b : List Bool) → take_bits (m + n) high b ≡ take_bits m high b >>= (λ x. take_bits n x.0 x.1)
+unfolding take_bits
+take_bits-after_bits zero n high b = let e : 0 + n ≡ n = omega arith in rw e refl
+take_bits-after_bits (suc m) n high [] = let e : suc m + n ≡ suc (m + n) = omega arith in rw e refl
+take_bits-after_bits (suc m) n high (x ∷ b) =
+    let e : suc m + n ≡ suc (m + n) = omega arith in
+    rw e (take_bits-after_bits m n (2 * high + bit x) b)
+
+then_high : (n : ℕ) (r : Result (ℕ × List Bool) Fault) → r >>= (λ x. take_bits n x.0 x.1) ≡ r >>= (λ x. kept (λ v. x.0 * 2 ^ n + v) (take_bits n 0 x.1))
+then_high n (Ok x) = take_bits-high n x.0 x.1
+then_high n (Err fault) = refl
+
+pub take_bits-add : (m n : ℕ) (b : List Bool) → take_bits (m + n) 0 b ≡ take_bits m 0 b >>= (λ x. kept (λ v. x.0 * 2 ^ n + v) (take_bits n 0 x.1))
+take_bits-add m n b = take_bits-after_bits m n 0 b ∙ then_high n (take_bits m 0 b)
 
 -- ---- ue(v)
 

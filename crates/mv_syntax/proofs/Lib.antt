@@ -1,2 +1,5 @@
+pub mod AnswerLaws
 pub mod BitLaws
+pub mod LineLaws
+pub mod PayloadLaws
 pub mod TableLaws

@@ -1,3 +1,8 @@
+pub mod Answers
 pub mod Bits
-pub mod Table
+pub mod Cursor
 pub mod Laws
+pub mod Lines
+pub mod Payload
+pub mod Table
+pub mod Words

@@ -1,6 +1,7 @@
 -- Syntax tables as values: a table says what is printed for a value, which values are valid, what reads, which rule cuts,
 -- and the reader on lists of bits. Each of these is a recursion on the table (clause 7.3 and annex F.7.3 of H.265).
 use Rattle.std.specs.Prelude.{◌≡◌, ℕ, zero, suc, ◌+◌, ◌-◌, ◌^◌, ◌<◌, Bool, true, false, List, [], ◌∷◌, ◌++◌, length, ℤ, Option, Some, None, Result, Ok, Err, ◌⊎◌, if◌then◌else◌}
+use Prim.Native.String.{String}
 use Rattle.mv_syntax.specs.Bits.{Fault, short, breaks, kept, u_bits, take_bits, ue_bits, take_ue, se_code, se_bits, take_se}
 use Rattle.mv_syntax.specs.Bits as bits
 
@@ -14,7 +15,7 @@ pub data Table : Type 0 → Type 1 where
   ue : Table ℕ
   se : Table ℤ
   -- the field has this name
-  named : {A : Type 0} → List ℕ → Table A → Table A
+  named : {A : Type 0} → String → Table A → Table A
   -- behind its last field, rule r is broken where the test holds of the value
   refused : {A : Type 0} → ℕ → (A → Bool) → Table A → Table A
   -- before its first field, rule r is tried, and broken where the test holds

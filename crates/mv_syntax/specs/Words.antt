@@ -1,0 +1,98 @@
+-- The words that tables are written with, beside the constructors.
+use Rattle.std.specs.Prelude.{◌≡◌, ℕ, zero, suc, ◌+◌, ◌-◌, Bool, true, false, not, List, [], ◌∷◌, ◌++◌, length, Option, Some, None, nat_lt, nat_eq, refl, if◌then◌else◌}
+use Rattle.std.proofs.Common.{ap}
+use Rattle.mv_syntax.specs.Bits.{align_bits, trailing_bits}
+use Rattle.mv_syntax.specs.Table.{Table, refused, checked, repeat, padded, shaped}
+
+-- `t ! r ∶ bad`: the field t, which breaks rule r where its value is bad.
+infixl 20 ◌!◌∶◌
+abbrev pub ◌!◌∶◌ : {A : Type 0} → Table A → ℕ → (A → Bool) → Table A
+t ! r ∶ bad = refused r bad t
+
+-- Rules tried at a point between two fields, each by its number and whether it is broken, the least first.
+abbrev pub tried : {A : Type 0} → List (ℕ × Bool) → Table A → Table A
+tried [] t = t
+tried (rule ∷ rules) t = checked rule.0 rule.1 (tried rules t)
+
+-- A value is over n, is n, or is not n.
+abbrev pub over : ℕ → ℕ → Bool
+over n v = nat_lt n v
+
+abbrev pub is : ℕ → ℕ → Bool
+is n v = nat_eq v n
+
+abbrev pub is_not : ℕ → ℕ → Bool
+is_not n v = not (nat_eq v n)
+
+-- A flag, u(1), is set.
+abbrev pub is_set : ℕ → Bool
+is_set flag = nat_eq flag 1
+
+-- The value of a field, or the stated one where a condition leaves it out.
+infix 30 ◌otherwise◌
+abbrev pub ◌otherwise◌ : {A : Type 0} → Option A → A → A
+(Some v) otherwise stated = v
+None otherwise stated = stated
+
+-- A field that a condition leaves out has the value 0 where no other is stated.
+abbrev pub or_zero : Option ℕ → ℕ
+or_zero o = o otherwise 0
+
+-- A flag is coded and set.
+abbrev pub coded_set : Option ℕ → Bool
+coded_set o = is_set (or_zero o)
+
+-- The last of some values that was coded, or the stated one: "absent: that of the one before".
+abbrev pub last_coded : {A : Type 0} → List (Option A) → A → A
+last_coded [] stated = stated
+last_coded (o ∷ os) stated = last_coded os (o otherwise stated)
+
+-- Values in coded order: `a ▸ b ▸ c`.
+infixr 5 ◌▸◌
+abbrev pub ◌▸◌ : {A B : Type 0} → A → B → A × B
+a ▸ b = (a, b)
+
+-- `for each`: n turns, numbered from 0. The body may ask for the items before.
+abbrev pub for_each : {A : Type 0} → ℕ → (List A → Table A) → Table (List A)
+for_each n t = repeat (λ turn. turn) n t
+
+-- `for i = a to b`: both ends included, no turn where b is below a. The body has i and the items before.
+abbrev pub for_range : {A : Type 0} → ℕ → ℕ → (ℕ → List A → Table A) → Table (List A)
+for_range a b t = repeat (λ turn. a + turn) (suc b - a) (λ before. t (a + length before) before)
+
+-- A list of pairs as two lists, and back.
+abbrev pub unzipped : {A B : Type 0} → List (A × B) → List A × List B
+unzipped [] = ([], [])
+unzipped (x ∷ xs) = (x.0 ∷ (unzipped xs).0, x.1 ∷ (unzipped xs).1)
+
+abbrev pub both_lists : {A B : Type 0} → List A → List B → List (A × B)
+both_lists [] bs = []
+both_lists (a ∷ as) [] = []
+both_lists (a ∷ as) (b ∷ bs) = (a, b) ∷ both_lists as bs
+
+abbrev pub zipped : {A B : Type 0} → List A × List B → List (A × B)
+zipped lists = both_lists lists.0 lists.1
+
+pub zipped-unzipped : {A B : Type 0} (xs : List (A × B)) → zipped (unzipped xs) ≡ xs
+zipped-unzipped [] = refl
+zipped-unzipped (x ∷ xs) = ap (λ l. x ∷ l) (zipped-unzipped xs)
+
+-- A loop of n turns from index `first` that fills two lists, an item of each in each turn.
+unfoldable pub columns : {A B : Type 0} → ℕ → ℕ → (ℕ → Table (A × B)) → Table (List A × List B)
+columns first n t = shaped unzipped zipped zipped-unzipped (repeat (λ turn. first + turn) n (λ before. t (first + length before)))
+
+-- A loop of n turns from index `first` that fills one list.
+unfoldable pub items : {A : Type 0} → ℕ → ℕ → (ℕ → Table A) → Table (List A)
+items first n t = repeat (λ turn. first + turn) n (λ before. t (first + length before))
+
+-- A loop that fills more lists: the second list of pairs as two lists.
+unfoldable pub more_columns : {A B C : Type 0} → Table (A × List (B × C)) → Table (A × (List B × List C))
+more_columns t = shaped (λ x. (x.0, unzipped x.1)) (λ x. (x.0, zipped x.1)) (λ x. ap (λ l. (x.0, l)) (zipped-unzipped x.1)) t
+
+-- Bits equal to x up to a byte's end, behind t where the test holds of its value.
+abbrev pub aligned_where : {A : Type 0} → (A → Bool) → Bool → Table A → Table A
+aligned_where test x t = padded (λ v place. if test v then align_bits x place else []) t
+
+-- A slice segment header: its fields, and behind them a one bit and zeros up to the byte's end (7.3.2.12, byte_alignment()).
+abbrev pub whole_bytes : {A : Type 0} → Table A → Table A
+whole_bytes t = padded (λ v place. trailing_bits place) t
