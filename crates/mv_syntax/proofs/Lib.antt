@@ -3,3 +3,4 @@ pub mod BitLaws
 pub mod LineLaws
 pub mod PayloadLaws
 pub mod TableLaws
+pub mod Tried

@@ -5,7 +5,7 @@ use Rattle.mv_syntax.specs.Bits as bits
 use Rattle.mv_syntax.specs.Table.{Table, Valid, bits_of, Reads, Cut, read}
 use Rattle.mv_syntax.specs.Laws.{ExactlyOneOf}
 use Rattle.mv_syntax.specs.Payload.{size_limit, Payload, tail_bits, payload_bits, ValidPayload, ReadsPayload, CutPayload, before_last_one, take_tail, same_bits, read_end, read_payload, PayloadExactlyOne, PayloadRoundTrips}
-use Rattle.mv_syntax.proofs.TableLaws.{ok_value, bind-ok, bind-err, read-ok, reads-read, read-cut, cut-read, ok_err, err_fault, breaks-same, short-breaks, Answered, one_of_three}
+use Rattle.mv_syntax.proofs.TableLaws.{behind-count, ok_value, bind-ok, bind-err, read-ok, reads-read, read-cut, cut-read, ok_err, err_fault, breaks-same, short-breaks, Answered, one_of_three}
 
 -- ---- the last set bit
 pub zeros-no_one : (n : ℕ) → has_one (replicate n false) ≡ false
@@ -121,9 +121,6 @@ payload-parts p v =
     let own : List Bool = bits_of p.fields v.0 in
     let tail : List Bool = tail_bits v.1 in
     append_assoc own tail (trailing_bits (length (own ++ tail))) ∙ ap (λ n. own ++ (tail ++ trailing_bits n)) (length-append own tail)
-
-pub behind-count : (own rest : List Bool) → length (own ++ rest) - length rest ≡ length own
-behind-count own rest = rw (length-append own rest) (omega arith)
 
 pub lt-is : (m n : ℕ) → m < n → nat_lt m n ≡ true
 lt-is m n h = grind arith

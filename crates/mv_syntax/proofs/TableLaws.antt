@@ -7,6 +7,10 @@ use Rattle.mv_syntax.specs.Table.{Table, u, ue, se, named, refused, checked, ◌
 use Rattle.mv_syntax.specs.Laws.{ExactlyOneOf, ReadsAt, ExactlyOne, RoundTrips, Splits, Prefixes}
 use Rattle.mv_syntax.proofs.BitLaws.{take_bits-u_bits, take_bits-printed, take_bits-failed, take_ue-ue_bits, take_ue-printed, take_ue-failed, take_se-se_bits, take_se-printed, take_se-failed}
 
+-- what stands behind some bits tells how many they are
+pub behind-count : (own rest : List Bool) → length (own ++ rest) - length rest ≡ length own
+behind-count own rest = rw (length-append own rest) (omega arith)
+
 -- ---- the parts of an answer
 pub ok_value : {A B : Type 0} (x y : A) → Path (Result A B) (Ok x) (Ok y) → x ≡ y
 ok_value x y e = cc
@@ -109,7 +113,7 @@ read-ok (padded pad t) v rest h =
     let own : List Bool = bits_of t v in
     let pads : List Bool = pad v (length own) in
     let count : length (own ++ (pads ++ rest)) - length (pads ++ rest) ≡ length own =
-      rw (length-append own (pads ++ rest)) (omega arith) in
+      behind-count own (pads ++ rest) in
     rw (append_assoc own pads rest, read-ok t v (pads ++ rest) h, count, behind-there pads rest) refl
 read-ok (shaped to from same t) v rest h = rw (read-ok t (from v) rest h.0, h.1) refl
 
@@ -212,7 +216,7 @@ reads-read (padded {A = A} pad t) b v rest e =
       let right : more ≡ rest = ap (λ p. p.1) same in
       let h : Valid t v × (b ≡ bits_of t v ++ x.1) = one v x.1 (first ∙ ap (λ y. Ok (y, x.1)) left) in
       let own : List Bool = bits_of t v in
-      let count : length b - length x.1 ≡ length own = ap (λ y. length y - length x.1) h.1 ∙ rw (length-append own x.1) (omega arith) in
+      let count : length b - length x.1 ≡ length own = ap (λ y. length y - length x.1) h.1 ∙ behind-count own x.1 in
       let stood : x.1 ≡ pad v (length own) ++ rest =
         behind-found (pad v (length own)) x.1 rest
           (sym (ap (λ y. behind (pad y (length b - length x.1)) x.1) left ∙ ap (λ y. behind (pad v y) x.1) count) ∙ there ∙ ap (λ y. Ok y) right) in

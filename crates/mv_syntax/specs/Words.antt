@@ -2,7 +2,7 @@
 use Rattle.std.specs.Prelude.{◌≡◌, ℕ, zero, suc, ◌+◌, ◌-◌, Bool, true, false, not, List, [], ◌∷◌, ◌++◌, length, Option, Some, None, nat_lt, nat_eq, refl, if◌then◌else◌}
 use Rattle.std.proofs.Common.{ap}
 use Rattle.mv_syntax.specs.Bits.{align_bits, trailing_bits}
-use Rattle.mv_syntax.specs.Table.{Table, refused, checked, repeat, padded, shaped}
+use Rattle.mv_syntax.specs.Table.{Table, refused, checked, ◌>>=◌, repeat, padded, shaped}
 
 -- `t ! r ∶ bad`: the field t, which breaks rule r where its value is bad.
 infixl 20 ◌!◌∶◌
@@ -52,11 +52,21 @@ infixr 5 ◌▸◌
 abbrev pub ◌▸◌ : {A B : Type 0} → A → B → A × B
 a ▸ b = (a, b)
 
+-- The types of values in coded order: `A ⊗ B ⊗ C`.
+infixr 5 ◌⊗◌
+abbrev pub ◌⊗◌ : Type 0 → Type 0 → Type 0
+A ⊗ B = A × B
+
 -- `for each`: n turns, numbered from 0. The body may ask for the items before.
 abbrev pub for_each : {A : Type 0} → ℕ → (List A → Table A) → Table (List A)
 for_each n t = repeat (λ turn. turn) n t
 
--- `for i = a to b`: both ends included, no turn where b is below a. The body has i and the items before.
+-- `for i = a to n-1`: no turn where n is at most a. The body has i and the items before.
+abbrev pub for_below : {A : Type 0} → ℕ → ℕ → (ℕ → List A → Table A) → Table (List A)
+for_below a n t = repeat (λ turn. a + turn) (n - a) (λ before. t (a + length before) before)
+
+-- `for i = a to b`: both ends included, no turn where b is below a. The body has i and the items before. Where b is one less
+-- than a number that may be 0, it is `for_below`.
 abbrev pub for_range : {A : Type 0} → ℕ → ℕ → (ℕ → List A → Table A) → Table (List A)
 for_range a b t = repeat (λ turn. a + turn) (suc b - a) (λ before. t (a + length before) before)
 
@@ -67,8 +77,8 @@ unzipped (x ∷ xs) = (x.0 ∷ (unzipped xs).0, x.1 ∷ (unzipped xs).1)
 
 abbrev pub both_lists : {A B : Type 0} → List A → List B → List (A × B)
 both_lists [] bs = []
-both_lists (a ∷ as) [] = []
-both_lists (a ∷ as) (b ∷ bs) = (a, b) ∷ both_lists as bs
+both_lists (a ∷ others) [] = []
+both_lists (a ∷ others) (b ∷ bs) = (a, b) ∷ both_lists others bs
 
 abbrev pub zipped : {A B : Type 0} → List A × List B → List (A × B)
 zipped lists = both_lists lists.0 lists.1
@@ -96,3 +106,8 @@ aligned_where test x t = padded (λ v place. if test v then align_bits x place e
 -- A slice segment header: its fields, and behind them a one bit and zeros up to the byte's end (7.3.2.12, byte_alignment()).
 abbrev pub whole_bytes : {A : Type 0} → Table A → Table A
 whole_bytes t = padded (λ v place. trailing_bits place) t
+
+-- A line whose value no later line asks for.
+infixl 10 ◌>>◌
+abbrev pub ◌>>◌ : {A B : Type 0} → Table A → Table B → Table (A × B)
+t >> more = t >>= (λ _. more)
