@@ -1,7 +1,8 @@
 -- Tables of H.265 that ask most of the language, as terms.
 use Rattle.std.specs.Prelude.{◌≡◌, ℕ, zero, suc, ◌+◌, ◌-◌, ◌*◌, ◌^◌, Bool, true, false, not, ◌&&◌, ◌||◌, List, [], ◌∷◌, ◌++◌, length, reverse, get_or, map, filter, take, cond, ℤ, pos, negsuc, neg_ℤ, ◌+ℤ◌, int_lt, nat_lt, nat_le, nat_eq, Option, Some, None, is_some, sum, max, if◌then◌else◌, refl}
 use Rattle.mv_syntax.specs.Table.{Table, u, ue, se, named, ◌>>=◌, when, repeat, by_rule}
-use Rattle.mv_syntax.specs.Words.{◌>>◌, ◌!◌∶◌, tried, over, is, is_not, is_set, ◌otherwise◌, or_zero, coded_set, last_coded, ◌⊗◌, for_each, for_below, for_range, columns, items, more_columns, aligned_where, whole_bytes}
+use Rattle.mv_syntax.specs.Words.{◌>>◌, ◌!◌∶◌, tried, over, is, is_set, ◌otherwise◌, or_zero, coded_set, last_coded, ◌⊗◌, for_each, for_below, for_range, whole_bytes}
+use Rattle.mv_syntax.specs.Loops.{columns}
 
 -- ---- hrd_parameters(common, subs) (E.2.2)
 -- The flags of the first group that are in force: those coded here, or else those of the hrd_parameters before.

@@ -3,6 +3,7 @@ pub mod Bits
 pub mod Cursor
 pub mod Laws
 pub mod Lines
+pub mod Loops
 pub mod Payload
 pub mod Table
 pub mod Words

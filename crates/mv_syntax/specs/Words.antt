@@ -87,18 +87,6 @@ pub zipped-unzipped : {A B : Type 0} (xs : List (A × B)) → zipped (unzipped x
 zipped-unzipped [] = refl
 zipped-unzipped (x ∷ xs) = ap (λ l. x ∷ l) (zipped-unzipped xs)
 
--- A loop of n turns from index `first` that fills two lists, an item of each in each turn.
-unfoldable pub columns : {A B : Type 0} → ℕ → ℕ → (ℕ → Table (A × B)) → Table (List A × List B)
-columns first n t = shaped unzipped zipped zipped-unzipped (repeat (λ turn. first + turn) n (λ before. t (first + length before)))
-
--- A loop of n turns from index `first` that fills one list.
-unfoldable pub items : {A : Type 0} → ℕ → ℕ → (ℕ → Table A) → Table (List A)
-items first n t = repeat (λ turn. first + turn) n (λ before. t (first + length before))
-
--- A loop that fills more lists: the second list of pairs as two lists.
-unfoldable pub more_columns : {A B C : Type 0} → Table (A × List (B × C)) → Table (A × (List B × List C))
-more_columns t = shaped (λ x. (x.0, unzipped x.1)) (λ x. (x.0, zipped x.1)) (λ x. ap (λ l. (x.0, l)) (zipped-unzipped x.1)) t
-
 -- Bits equal to x up to a byte's end, behind t where the test holds of its value.
 abbrev pub aligned_where : {A : Type 0} → (A → Bool) → Bool → Table A → Table A
 aligned_where test x t = padded (λ v place. if test v then align_bits x place else []) t
