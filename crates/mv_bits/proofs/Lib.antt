@@ -1,3 +1,4 @@
 pub mod Codes
+pub mod Endings
 pub mod Readings
 pub mod Windows

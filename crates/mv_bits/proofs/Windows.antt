@@ -33,7 +33,7 @@ unfolding window_bits
 window_bits-taken n count word bytes h =
     let low : word % 2 ^ count < 2 ^ count = mod_below word (2 ^ count) (pow_pos count) in
     let parts : u_bits (n + count) word ≡ u_bits n (word / 2 ^ count) ++ u_bits count (word % 2 ^ count)
-        = ap (u_bits (n + count)) (sym (shr_split word count)) ∙ u_bits-append n count (word / 2 ^ count) (word % 2 ^ count) low
+    = ap (u_bits (n + count)) (sym (shr_split word count)) ∙ u_bits-append n count (word / 2 ^ count) (word % 2 ^ count) low
     in
     ap (take_bits n 0) (ap (λ b. b ++ byte_bits bytes) parts ∙ append_assoc (u_bits n (word / 2 ^ count)) (u_bits count (word % 2 ^ count)) (byte_bits bytes))
     ∙ take_bits-u_bits n (word / 2 ^ count) (u_bits count (word % 2 ^ count) ++ byte_bits bytes) (shr_below word n count h)
@@ -92,7 +92,7 @@ two_joined n high low left middle rest h k e f =
     let top : high < 2 ^ (n - 32) = (take_bits-printed (n - 32) left high middle e).1 in
     let bottom : low < 2 ^ 32 = (take_bits-printed 32 middle low rest f).1 in
     let value : bit_or (high * 2 ^ 32 % 2 ^ 64) low ≡ high * 2 ^ 32 + low
-        = ap (λ w. bit_or w low) (shl_whole high (n - 32) 32 64 top (omega arith)) ∙ or_shifted high 32 low bottom
+    = ap (λ w. bit_or w low) (shl_whole high (n - 32) 32 64 top (omega arith)) ∙ or_shifted high 32 low bottom
     in
     in_two n left h ∙ ap go e ∙ ap (kept (λ v. high * 2 ^ 32 + v)) f ∙ ap (λ v. Ok (v, rest)) (sym value)
 
@@ -112,7 +112,7 @@ Holds-pulled count word first whole bytes rest cursor h room byte split =
       in_hand = pulled_in_hand count word first narrow h.in_hand byte;
       within = omega (arith, h.within, ap length split);
       left = pulled_left count word first bytes rest cursor.left narrow h.in_hand byte split h.left;
-      total = h.total
+      total = h.total;
     }
 
 pub Holds-from : (count word : ℕ) (bytes : List ℕ) (whole : ℕ) (cursor : Cursor) → (let seen : Cursor = record { total = 8 * whole; left = window_bits count word bytes } in seen ≡ cursor) → (count < 64) × (word < 2 ^ count) × (count + 8 * length bytes ≤ 8 * whole) → Holds count word bytes whole cursor
@@ -121,7 +121,7 @@ Holds-from count word bytes whole cursor e h = record {
   in_hand = h.1;
   within = h.2;
   left = ap (λ (r : Cursor). r.left) e;
-  total = ap (λ (r : Cursor). r.total) e
+  total = ap (λ (r : Cursor). r.total) e;
 }
 
 -- the bits taken, by the fields
@@ -149,3 +149,8 @@ pub window_bits-first : (count word first : ℕ) (bytes rest : List ℕ) → cou
 unfolding window_bits u_bits
 window_bits-first zero word first bytes rest e split = ap byte_bits split ∙ byte_bits-cons first rest
 window_bits-first (suc count) word first bytes rest e split = absurd (omega arith)
+
+-- the bits taken and those left are whole bytes
+pub Holds-whole : {count word : ℕ} {bytes : List ℕ} {whole : ℕ} {cursor : Cursor} → Holds count word bytes whole cursor → place cursor + length cursor.left ≡ 8 * whole
+Holds-whole {count = count} {word = word} {bytes = bytes} h =
+    omega (arith, h.within, h.total, ap length h.left, length-window_bits count word bytes)

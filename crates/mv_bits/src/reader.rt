@@ -1,6 +1,6 @@
 ghost use Rattle.std.specs.Prelude.{◌≡◌, ◌≢◌, ◌≤◌, ◌<◌, ◌^◌, ◌%◌, ◌+◌, ◌-◌, ◌↔◌, IsTrue, IfOk, OnOk, OnErr, length, [], Err, negsuc, ◌<ℤ◌, not, ◌==◌, MatchOption, MatchResult};
 ghost use Rattle.std.specs.List.{list_any};
-ghost use Rattle.mv_syntax.specs.Bits.{short, kept, take_bits, take_ue, take_se, trailing_bits, se_value, more_data, byte_bits};
+ghost use Rattle.mv_syntax.specs.Bits.{short, kept, take_bits, take_ue, take_se, trailing_bits, se_value, has_one, more_data, byte_bits};
 ghost use Rattle.mv_bits.specs.Cursor.{Cursor, place, Takes, window_bits, IsWindow};
 
 use crate::no_bits::NoBits;
@@ -256,8 +256,14 @@ fn signed(code: u32) -> i32
     if code % 2 == 1 { size } else { -size }
 }
 
-// Whether a byte is not zero.
+// Whether a bit of the bytes is set.
 fn any_set(bytes: &[u8]) -> bool
+    ensures { result ≡ has_one (byte_bits bytes.now) }
+{
+    any_nonzero(bytes)
+}
+
+fn any_nonzero(bytes: &[u8]) -> bool
     ensures { result ≡ list_any (λ byte. not (byte == 0)) bytes.now }
 {
     bytes.iter().any(|byte| *byte != 0)

@@ -1,5 +1,5 @@
 use Rattle.std.proofs.Common.{◌<◌, ◌≡◌, ◌∙◌, ◌^◌, ◌∷◌, sym, ap, arith, rules}
-use Rattle.mv_bits.proofs.Windows.{same_cursor, Holds-pulled}
+use Rattle.mv_bits.proofs.Windows.{Holds-pulled}
 use Rattle.mv_bits.proofs.reader.BitReader.fill.Goals as goal
 
 pub pull-preserved : goal.pull-preserved

@@ -5,9 +5,10 @@ use Rattle.mv_bits.proofs.reader.BitReader.short.Goals as goal
 pub returns-in_default : goal.returns-in_default
 returns-in_default c =
     let now = c.pull.self-inside in
-    let kept = c.pull.invariant in
-    (takes_past_end c.args.n now.count now.word now.bytes.now c.args.self.now.left c.pull-test.true (search rules) kept.left,
-    same_cursor kept.total kept.left)
+    let kept = c.pull.invariant in (
+      takes_past_end c.args.n now.count now.word now.bytes.now c.args.self.now.left c.pull-test.true (search rules) kept.left,
+      same_cursor kept.total kept.left,
+    )
 
 pub pull-preserved : goal.pull-preserved
 pull-preserved c =

@@ -24,10 +24,10 @@ count-preserved c =
     record {
       most = omega arith;
       code = c.count.invariant.code
-        ∙ ap (λ n. take_ue_from n c.count.zeros c.count.self.left) more
-        ∙ ue_zero_bit (31 - (c.count.zeros + 1)) c.count.zeros c.in_ok-short.field-0 c.count.self.left c.short.new.self.left c.in_ok-short.ensures.0 c.if-branch-eq0.true
-        ∙ ap (λ n. take_ue_from (31 - (c.count.zeros + 1)) n c.short.new.self.left) (sym (add-one c.count.zeros));
-      total = c.in_ok-short.ensures.1 ∙ c.count.invariant.total
+          ∙ ap (λ n. take_ue_from n c.count.zeros c.count.self.left) more
+          ∙ ue_zero_bit (31 - (c.count.zeros + 1)) c.count.zeros c.in_ok-short.field-0 c.count.self.left c.short.new.self.left c.in_ok-short.ensures.0 c.if-branch-eq0.true
+          ∙ ap (λ n. take_ue_from (31 - (c.count.zeros + 1)) n c.short.new.self.left) (sym (add-one c.count.zeros));
+      total = c.in_ok-short.ensures.1 ∙ c.count.invariant.total;
     }
 
 pub returns-clause-code : goal.returns-clause-code

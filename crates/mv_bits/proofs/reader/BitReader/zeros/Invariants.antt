@@ -6,7 +6,7 @@ abbrev pub invariant-count : goal.invariant-count
 invariant-count l = record {
   most : l.zeros ≤ 31;
   code : take_ue l.fn.self.left ≡ take_ue_from (31 - l.zeros) l.zeros l.self.left;
-  total : l.self.total ≡ l.fn.self.total
+  total : l.self.total ≡ l.fn.self.total;
 }
 
 abbrev pub decreases-count : goal.decreases-count
