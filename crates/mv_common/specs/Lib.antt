@@ -1,0 +1,4 @@
+pub mod Faults
+pub mod Profile
+pub mod Hrd
+pub mod Vui
