@@ -5,28 +5,34 @@ use Rattle.std.specs.List.{filter}
 use Rattle.mv_syntax.specs.Words.{is_set, ◌otherwise◌, or_zero, coded_set}
 use Rattle.mv_common.specs.ShortSetValue.{ShortSetValue}
 use Rattle.mv_common.specs.declared.delta.Delta.{Delta}
+use Rattle.mv_common.specs.declared.delta.Side.{Side}
+use Rattle.mv_common.specs.declared.delta.Side.TheVariants.{Before, After}
 
--- A picture that comes before the current one, or after it, in output order.
-abbrev pub below_zero : ℤ → Bool
-below_zero d = int_lt d (pos 0)
+-- Whether a delta is on a side of the current picture: below 0 for a picture before it in output order, above 0 for one after
+-- it.
+abbrev pub is_on : Side → ℤ → Bool
+is_on Before d = int_lt d (pos 0)
+is_on After d = int_lt (pos 0) d
 
-abbrev pub above_zero : ℤ → Bool
-above_zero d = int_lt (pos 0) d
+-- The delta at a distance on a side.
+abbrev pub at_distance : Side → ℕ → ℤ
+at_distance Before n = neg_ℤ (pos n)
+at_distance After n = pos n
 
 -- ---- Sets that are coded directly
 
--- Pictures on one side of the current one: each stands further away than the one before it, the first from 0, by its number
--- plus 1, and is used where its flag is 1.
-abbrev pub steps : (ℕ → ℤ) → ℕ → List ℕ → List ℕ → List Delta
+-- Pictures on one side: each stands further away than the one before it, the first from 0, by its number plus 1, and is used
+-- where its flag is 1.
+abbrev pub steps : Side → ℕ → List ℕ → List ℕ → List Delta
 steps side far [] flags = []
 steps side far (minus1 ∷ more) [] = []
 steps side far (minus1 ∷ more) (flag ∷ flags) =
-    record { delta = side (far + minus1 + 1); used = is_set flag } ∷ steps side (far + minus1 + 1) more flags
+    record { delta = at_distance side (far + minus1 + 1); used = is_set flag } ∷ steps side (far + minus1 + 1) more flags
 
 unfoldable pub direct : ShortSetValue → List Delta
 direct s =
-    steps (λ n. neg_ℤ (pos n)) 0 s.delta_poc_s0_minus1 s.used_by_curr_pic_s0_flag
-    ++ steps pos 0 s.delta_poc_s1_minus1 s.used_by_curr_pic_s1_flag
+    steps Before 0 s.delta_poc_s0_minus1 s.used_by_curr_pic_s0_flag
+    ++ steps After 0 s.delta_poc_s1_minus1 s.used_by_curr_pic_s1_flag
 
 -- ---- Sets that are predicted from a reference set
 
@@ -45,16 +51,20 @@ abbrev pub moved : ℤ → ℕ → List Delta → List Candidate
 moved d j [] = []
 moved d j (one ∷ more) = record { delta = one.delta +ℤ d; flags = j } ∷ moved d (suc j) more
 
--- Of some candidates those on the side that is asked for whose use_delta_flag is 1, which it is where it is not coded, each
--- with its used_by_curr_pic_flag.
-abbrev pub is_taken : (ℤ → Bool) → List (Option ℕ) → Candidate → Bool
-is_taken side use_delta c = side c.delta && is_set (get_or use_delta c.flags None otherwise 1)
+-- Of some candidates those on one side whose use_delta_flag is 1, which it is where it is not coded, each with its
+-- used_by_curr_pic_flag.
+abbrev pub is_taken : Side → ShortSetValue → Candidate → Bool
+is_taken side s c = is_on side c.delta && is_set (get_or s.use_delta_flag c.flags None otherwise 1)
 
-abbrev pub with_flag : List ℕ → Candidate → Delta
-with_flag used c = record { delta = c.delta; used = is_set (get_or used c.flags 0) }
+abbrev pub with_flag : ShortSetValue → Candidate → Delta
+with_flag s c = record { delta = c.delta; used = is_set (get_or s.used_by_curr_pic_flag c.flags 0) }
 
-abbrev pub taken : (ℤ → Bool) → ShortSetValue → List Candidate → List Delta
-taken side s candidates = map (with_flag s.used_by_curr_pic_flag) (filter (is_taken side s.use_delta_flag) candidates)
+abbrev pub taken : Side → ShortSetValue → List Candidate → List Delta
+taken side s candidates = map (with_flag s) (filter (is_taken side s) candidates)
+
+-- The deltas of some that are on one side.
+abbrev pub on_side : Side → List Delta → List Delta
+on_side side some = filter (λ one. is_on side one.delta) some
 
 -- From the reference set's deltas: its n negative ones, S0, have the flags 0 to n - 1, its p positive ones, S1, the flags
 -- n to n + p - 1, and the reference set's own picture, which stands at 0, the flags n + p. Each side is filled from its far
@@ -62,12 +72,12 @@ taken side s candidates = map (with_flag s.used_by_curr_pic_flag) (filter (is_ta
 unfoldable pub predicted : List Delta → ShortSetValue → List Delta
 predicted reference s =
     let d : ℤ = delta_rps s in
-    let s0 : List Delta = filter (λ one. below_zero one.delta) reference in
-    let s1 : List Delta = filter (λ one. above_zero one.delta) reference in
+    let s0 : List Delta = on_side Before reference in
+    let s1 : List Delta = on_side After reference in
     let n : ℕ = length s0 in
     let own : Candidate = record { delta = d; flags = n + length s1 } in
-    taken below_zero s (reverse (moved d n s1) ++ own ∷ moved d 0 s0)
-    ++ taken above_zero s (reverse (moved d 0 s0) ++ own ∷ moved d n s1)
+    taken Before s (reverse (moved d n s1) ++ own ∷ moved d 0 s0)
+    ++ taken After s (reverse (moved d 0 s0) ++ own ∷ moved d n s1)
 
 -- ---- Sets among others
 

@@ -1,7 +1,8 @@
 -- hrd_parameters (E.2.2) and sub_layer_hrd_parameters (E.2.3).
 use Rattle.std.specs.Prelude.{◌≡◌, ℕ, ◌+◌, Bool, not, ◌||◌, refl}
 use Rattle.mv_syntax.specs.Table.{Table, ◌>>=◌, u, ue, named, when, shaped}
-use Rattle.mv_syntax.specs.Words.{◌▸◌, ◌>>◌, ◌!◌∶◌, over, is_set, ◌otherwise◌, or_zero, coded_set, items}
+use Rattle.mv_syntax.specs.Words.{◌▸◌, ◌>>◌, ◌!◌∶◌, over, is_set, ◌otherwise◌, or_zero, coded_set}
+use Rattle.mv_syntax.specs.Loops.{items}
 use Rattle.mv_common.specs.declared.hrd.HrdCommon.{HrdCommon}
 use Rattle.mv_common.specs.declared.hrd.Cpb.{Cpb}
 

@@ -2,3 +2,8 @@ pub mod Faults
 pub mod Profile
 pub mod Hrd
 pub mod Vui
+pub mod Deltas
+pub mod ScalingListValue
+pub mod ScalingLists
+pub mod ShortSet
+pub mod ShortSetValue

@@ -1,7 +1,8 @@
 -- The scaling lists of a parameter set, scaling_list_data (7.3.4).
 use Rattle.std.specs.Prelude.{◌≡◌, ℕ, ◌+◌, ◌*◌, ◌/◌, ◌^◌, min, Bool, not, ◌&&◌, List, nat_lt, nat_eq, refl, if◌then◌else◌}
 use Rattle.mv_syntax.specs.Table.{Table, ◌>>=◌, u, ue, se, named, when, repeat, shaped}
-use Rattle.mv_syntax.specs.Words.{◌▸◌, ◌>>◌, is_set, items}
+use Rattle.mv_syntax.specs.Words.{◌▸◌, ◌>>◌, is_set}
+use Rattle.mv_syntax.specs.Loops.{items}
 use Rattle.mv_common.specs.ScalingListValue.{ScalingListValue}
 
 -- How many coefficients are coded for a list of size s (7.3.4, coefNum).

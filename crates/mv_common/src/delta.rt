@@ -6,3 +6,10 @@ pub struct Delta {
     /// Whether the current picture may refer to it. Other pictures are kept for later ones.
     pub used: bool,
 }
+
+/// A side of the current picture in output order.
+#[derive(Clone, Copy)]
+pub enum Side {
+    Before,
+    After,
+}
