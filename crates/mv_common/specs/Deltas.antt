@@ -1,6 +1,6 @@
 -- The deltas of a short-term reference picture set (7.4.8): how far each picture that it names stands from the current
 -- picture in output order, those before it first.
-use Rattle.std.specs.Prelude.{ℕ, suc, ◌+◌, ◌-◌, Bool, ◌&&◌, List, [], ◌∷◌, ◌++◌, length, reverse, map, get_or, ℤ, pos, neg_ℤ, ◌+ℤ◌, int_lt, Option, None, if◌then◌else◌}
+use Rattle.std.specs.Prelude.{◌≡◌, ℕ, suc, ◌+◌, ◌-◌, Bool, ◌&&◌, List, [], ◌∷◌, ◌++◌, length, reverse, map, get_or, ℤ, pos, neg_ℤ, ◌+ℤ◌, ◌≤ℤ◌, int_lt, Option, None, if◌then◌else◌}
 use Rattle.std.specs.List.{filter}
 use Rattle.mv_syntax.specs.Words.{is_set, ◌otherwise◌, or_zero, coded_set}
 use Rattle.mv_common.specs.ShortSetValue.{ShortSetValue}
@@ -101,3 +101,14 @@ deltas_behind earlier (s ∷ sets) =
 -- The deltas of each of the sets from set 0 on.
 unfoldable pub deltas_of_each : List ShortSetValue → List (List Delta)
 deltas_of_each sets = deltas_behind [] sets
+
+-- ---- What deltas are known by
+
+-- Those before the current picture come first, then those after it, and there are no others.
+pub record IsSided (some : List Delta) : Type 0 where
+  pub sided : on_side Before some ++ on_side After some ≡ some
+
+-- A delta is from -n to n.
+pub record IsNear (n : ℕ) (one : Delta) : Type 0 where
+  pub not_below : neg_ℤ (pos n) ≤ℤ one.delta
+  pub not_above : one.delta ≤ℤ pos n

@@ -2,6 +2,7 @@
 #![tactic(auto)]
 
 mod delta;
+mod deltas;
 mod fault;
 mod fields;
 mod hrd;
@@ -11,7 +12,7 @@ mod scaling_lists;
 mod short_set;
 mod vui;
 
-pub use delta::Delta;
+pub use delta::{Delta, Side};
 pub use fault::FieldFault;
 pub use fields::{
     coded_set, put_u8, put_u8_if, put_u16_if, put_u32, put_u32_if, put_u64, put_ue, put_ue_if, u8_if, u8_of,

@@ -1,0 +1,3 @@
+pub mod DeltaLaws
+pub mod DeltaSteps
+pub mod SetLaws
