@@ -1,5 +1,5 @@
 -- From the answer of the reader on lists to the words of the table.
-use Rattle.std.proofs.Common.{◌≡◌, ℕ, ◌+◌, ◌*◌, Bool, List, length, IfOk, Option, Some, None, Result, Ok, Err, refl, sym, ◌∙◌}
+use Rattle.std.proofs.Common.{◌≡◌, ℕ, ◌+◌, ◌*◌, Bool, List, length, IfOk, Option, Some, None, Result, Ok, Err, refl, sym, ap, ◌∙◌, subst}
 use Rattle.mv_syntax.specs.Bits.{Fault, short, breaks}
 use Rattle.mv_syntax.specs.Cursor.{Cursor}
 use Rattle.mv_syntax.specs.Table.{Table, Reads, Cut, read}
@@ -15,15 +15,18 @@ refuses answer reads cut h None e = tt
 refuses answer reads cut h (Some short) e = short-neither answer reads cut h e
 refuses answer reads cut h (Some (breaks r)) e = h.is_rule r e
 
--- a reader that read on a fork answers at the place that it moved to, and on an error at the place where it stood
-pub answers_ok : {A X E : Type 0} (view : X → A) (means : E → Option Fault) (t : Table A) (old new : Cursor) (x : X)
-  → Fills view means old new (Ok x) (read t old.left) → Answers view means t old new (Ok x)
-answers_ok view means t old new x h = (reads-of t old.left (view x) new.left h.0, h.1)
+-- a call that read from `start` on, a fork of its reader at `old`: on a value the reader moved where the fork is, on an error it
+-- stands where it stood
+pub answers_ok : {A X E : Type 0} (view : X → A) (means : E → Option Fault) (t : Table A) (old start new : Cursor) (x : X)
+  → start ≡ old → Fills view means start new (Ok x) (read t start.left) → Answers view means t old new (Ok x)
+answers_ok view means t old start new x same h =
+    (reads-of t old.left (view x) new.left (sym (ap (λ c. read t c.left) same) ∙ h.0), h.1 ∙ ap (λ c. c.total) same)
 
-pub answers_err : {A X E : Type 0} (view : X → A) (means : E → Option Fault) (t : Table A) (old ahead : Cursor) (e : E)
-  → Fills view means old ahead (Err e) (read t old.left) → Answers view means t old old (Err e)
-answers_err view means t old ahead e h =
-    (refuses (read t old.left) (λ v. Reads t old.left v.0 v.1) (Cut t old.left) (table_answered t old.left) (means e) h, refl)
+pub answers_err : {A X E : Type 0} (view : X → A) (means : E → Option Fault) (t : Table A) (old start : Cursor) (e : E)
+  → start ≡ old → FailsAs (means e) (read t start.left) → Answers view means t old old (Err e)
+answers_err view means t old start e same h =
+    (refuses (read t old.left) (λ v. Reads t old.left v.0 v.1) (Cut t old.left) (table_answered t old.left) (means e)
+       (subst (λ c. FailsAs (means e) (read t c.left)) same h), refl)
 
 pub answers_payload : {A X E : Type 0} (view : X → A × Option (List Bool)) (means : E → Option Fault) (p : Payload A) (b : List Bool) (answer : Result X E)
   → FillsPayload view means answer (read_payload p b) → AnswersPayload view means p b answer

@@ -139,17 +139,17 @@ put_items_after_turn t first n vs i j d out h e =
       ∙ rw (length-take-le i vs (omega arith), ← e) refl
 
 -- nothing is put before the first item, and all when no item is left
-pub put_items_begin : {A : Type 0} (t : ℕ → Table A) (first n : ℕ) (vs : List A) (out : List Bool) → put (items first n t) (take 0 vs) out ≡ out
+pub put_items_begin : {A : Type 0} (t : ℕ → Table A) (first n : ℕ) (out : List Bool) → put (items first n t) [] out ≡ out
 unfolding items
-put_items_begin t first n vs out = refl
+put_items_begin t first n out = refl
 
 pub put_items_done : {A : Type 0} (t : ℕ → Table A) (first n : ℕ) (vs : List A) (i : ℕ) (out : List Bool) → length vs ≤ i
   → put (items first n t) (take i vs) out ≡ put (items first n t) vs out
 put_items_done t first n vs i out h = rw (take_all i vs h) refl
 
-pub put_items_after_begin : {A : Type 0} (t : ℕ → List A → Table A) (first n : ℕ) (vs : List A) (out : List Bool) → put (items_after first n t) (take 0 vs) out ≡ out
+pub put_items_after_begin : {A : Type 0} (t : ℕ → List A → Table A) (first n : ℕ) (out : List Bool) → put (items_after first n t) [] out ≡ out
 unfolding items_after
-put_items_after_begin t first n vs out = refl
+put_items_after_begin t first n out = refl
 
 pub put_items_after_done : {A : Type 0} (t : ℕ → List A → Table A) (first n : ℕ) (vs : List A) (i : ℕ) (out : List Bool) → length vs ≤ i
   → put (items_after first n t) (take i vs) out ≡ put (items_after first n t) vs out
@@ -192,10 +192,9 @@ put_columns_turn t first n ones others i j d e out h k same =
     rw (both_lists-take (i + 1) ones others, both_lists-take i ones others, ← at.1)
       (put_items_turn t first n (both_lists ones others) i j (d, e) out at.0 same)
 
-pub put_columns_begin : {A B : Type 0} (t : ℕ → Table (A × B)) (first n : ℕ) (ones : List A) (others : List B) (out : List Bool)
-  → put (columns first n t) (take 0 ones, take 0 others) out ≡ out
+pub put_columns_begin : {A B : Type 0} (t : ℕ → Table (A × B)) (first n : ℕ) (out : List Bool) → put (columns first n t) ([], []) out ≡ out
 unfolding columns
-put_columns_begin t first n ones others out = refl
+put_columns_begin t first n out = refl
 
 pub put_columns_done : {A B : Type 0} (t : ℕ → Table (A × B)) (first n : ℕ) (ones : List A) (others : List B) (i : ℕ) (out : List Bool) → length ones ≤ i → length others ≤ i
   → put (columns first n t) (take i ones, take i others) out ≡ put (columns first n t) (ones, others) out

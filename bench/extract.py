@@ -1,0 +1,84 @@
+#!/usr/bin/env python3
+"""Measures `mv_cli extract 0` on streams that it makes itself, beside `cat` in the same run.
+
+Streams: large units (900 KB), middle ones (250 KB), small ones (90 bytes), all of layer 0, with four-byte start codes.
+For each it prints MB/s and the ratio to `cat`, to nothing and to a pipe, the best of some runs; with --gigabyte the
+memory that the program takes at most on a stream of a gigabyte.
+
+usage: bench/extract.py [--size MB] [--runs N] [--gigabyte]
+"""
+import argparse
+import os
+import random
+import resource
+import subprocess
+import sys
+import tempfile
+import time
+
+HERE = os.path.dirname(os.path.dirname(os.path.abspath(__file__)))
+PROGRAM = os.path.join(HERE, "crates", "mv_cli", "out", "mv_cli")
+KINDS = (("large", 900_000), ("middle", 250_000), ("small", 90))
+
+
+def unit(size, seed):
+    """A slice unit of layer 0 whose bytes hold no start code and need no emulation prevention."""
+    draw = random.Random(seed)
+    body = bytes(draw.randrange(1, 256) if draw.randrange(64) else 0 for _ in range(min(size, 65_521)))
+    while b"\0\0" in body:
+        body = body.replace(b"\0\0", b"\0\1")
+    body = (body * (size // len(body) + 1))[: size - 3]
+    return b"\0\0\0\1" + bytes((2, 1)) + body.replace(b"\0\0", b"\0\1") + b"\x80"
+
+
+def stream(path, size, total):
+    """Writes units of one size up to a total of bytes."""
+    block = b"".join(unit(size, seed) for seed in range(max(1, min(64, 4_000_000 // size))))
+    with open(path, "wb") as out:
+        for _ in range(max(1, total // len(block))):
+            out.write(block)
+    return os.path.getsize(path)
+
+
+def seconds(words, path, to_pipe):
+    """The time of one run, its output thrown away or read through a pipe."""
+    with open(path, "rb") as source:
+        start = time.perf_counter()
+        if to_pipe:
+            run = subprocess.Popen(words, stdin=source, stdout=subprocess.PIPE)
+            sink = subprocess.Popen(["cat"], stdin=run.stdout, stdout=subprocess.DEVNULL)
+            run.stdout.close()
+            sink.wait()
+            status = run.wait()
+        else:
+            status = subprocess.run(words, stdin=source, stdout=subprocess.DEVNULL).returncode
+        spent = time.perf_counter() - start
+    if status != 0:
+        sys.exit(f"{words[0]} ended with status {status}")
+    return spent
+
+
+def main():
+    parser = argparse.ArgumentParser(description=__doc__.split("\n")[0])
+    parser.add_argument("--size", type=int, default=200, help="megabytes a stream")
+    parser.add_argument("--runs", type=int, default=5)
+    parser.add_argument("--gigabyte", action="store_true", help="also the memory on a gigabyte")
+    asked = parser.parse_args()
+    if not os.access(PROGRAM, os.X_OK):
+        sys.exit("build the program first: ./mv_cli extract 0 < samples/first.h265")
+    with tempfile.TemporaryDirectory() as folder:
+        path = os.path.join(folder, "stream.h265")
+        for name, size in KINDS:
+            total = stream(path, size, asked.size * 1_000_000)
+            for where, to_pipe in (("nothing", False), ("a pipe", True)):
+                ours = min(seconds([PROGRAM, "extract", "0"], path, to_pipe) for _ in range(asked.runs))
+                cat = min(seconds(["cat"], path, to_pipe) for _ in range(asked.runs))
+                print(f"{name:7} to {where:8} {total / ours / 1e6:8.0f} MB/s   {cat / ours:5.2f} of cat", flush=True)
+        if asked.gigabyte:
+            stream(path, 900_000, 1_000_000_000)
+            seconds([PROGRAM, "extract", "0"], path, False)
+            most = resource.getrusage(resource.RUSAGE_CHILDREN).ru_maxrss
+            print(f"at most {most / 1024:.1f} MiB on a stream of a gigabyte with units of 0.9 MB (largest of all runs here)")
+
+
+main()

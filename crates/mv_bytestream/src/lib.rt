@@ -1,0 +1,14 @@
+//! Byte streams of ITU-T H.265, Annex B: units are found in a stream, their heads are read, and units are
+//! put into a stream.
+#![tactic(auto)]
+
+mod framing;
+mod heads;
+mod splitting;
+#[cfg(test)]
+mod tests;
+
+pub use framing::frame;
+pub use heads::read_head;
+pub use mv_defs::UnitHead;
+pub use splitting::{ScanFault, Span, split};

@@ -1,0 +1,33 @@
+-- How a run of the program ends: its status, and the line that says why (this project's profile).
+use Rattle.std.specs.Prelude.{ℕ, List, [], ◌++◌, codes, decimal}
+use Rattle.mv_io.specs.declared.refusal.Refusal.{Refusal}
+use Rattle.mv_io.specs.Rule.{rule_number, rule_name}
+use Rattle.mv_cli.specs.declared.ending.Ending.{Ending}
+use Rattle.mv_cli.specs.declared.ending.Ending.TheVariants.{Done, Refused, Usage, ReadFault, WriteFault, NoMemory, TooLong}
+use Rattle.mv_cli.specs.Words.{usage_line}
+
+-- the exit status of each ending
+abbrev pub status_of : Ending → ℕ
+status_of Done = 0
+status_of (Refused refusal) = 1
+status_of Usage = 2
+status_of ReadFault = 3
+status_of WriteFault = 4
+status_of NoMemory = 5
+status_of TooLong = 7
+
+-- the line of a refusal: `refused: unit N at byte B: rule R NAME`, the numbers in decimal
+abbrev pub refusal_line : Refusal → List ℕ
+refusal_line refusal =
+    codes "refused: unit " ++ decimal refusal.unit ++ codes " at byte " ++ decimal refusal.byte
+    ++ codes ": rule " ++ decimal (rule_number refusal.rule) ++ codes " " ++ rule_name refusal.rule ++ codes "\n"
+
+-- the line that each ending writes on the sink for faults
+abbrev pub line_of : Ending → List ℕ
+line_of Done = []
+line_of (Refused refusal) = refusal_line refusal
+line_of Usage = usage_line
+line_of ReadFault = codes "read fault\n"
+line_of WriteFault = codes "write fault\n"
+line_of NoMemory = codes "no memory\n"
+line_of TooLong = codes "too long\n"

@@ -1,0 +1,41 @@
+ghost use Rattle.std.specs.Prelude.{◌≡◌};
+
+use mv_io::Refusal;
+
+/// How a run of the program ends.
+#[derive(Clone, Copy, Debug, PartialEq, Eq)]
+pub enum Ending {
+    /// The job is done, and the input was read to its end.
+    Done,
+    /// The stream is refused.
+    Refused(Refusal),
+    /// The words are no form.
+    Usage,
+    /// A read of the input failed.
+    ReadFault,
+    /// A write to the output failed.
+    WriteFault,
+    /// The allocator refused memory.
+    NoMemory,
+    /// The input has more bytes than the limit.
+    TooLong,
+}
+
+impl Ending {
+    ghost use Rattle.mv_cli.specs.Ending.{status_of};
+
+    /// The exit status: 0 where the job is done, and else a number from 1 to 7.
+    pub fn status(&self) -> u8
+        ensures { result ≡ status_of self.now }
+    {
+        match self {
+            Ending::Done => 0,
+            Ending::Refused(_) => 1,
+            Ending::Usage => 2,
+            Ending::ReadFault => 3,
+            Ending::WriteFault => 4,
+            Ending::NoMemory => 5,
+            Ending::TooLong => 7,
+        }
+    }
+}

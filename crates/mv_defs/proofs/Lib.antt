@@ -1,0 +1,6 @@
+pub mod FactLaws
+pub mod Framed
+pub mod Longer
+pub mod Parts
+pub mod Pieces
+pub mod Trimmed

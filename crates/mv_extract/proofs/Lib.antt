@@ -1,0 +1,3 @@
+pub mod Taking
+pub mod Tried
+pub mod Whole

@@ -1,0 +1,10 @@
+//! Extraction of a sub-bitstream: the units of the layers that are kept, each put behind a start code,
+//! bytes unchanged.
+#![tactic(auto)]
+
+mod error;
+mod heads;
+mod reading;
+
+pub use error::ExtractError;
+pub use heads::extract_heads;

@@ -1,0 +1,9 @@
+pub mod Buffer
+pub mod End
+pub mod Faults
+pub mod MemSink
+pub mod MemSource
+pub mod Rule
+pub mod Sink
+pub mod Source
+pub mod StdSink

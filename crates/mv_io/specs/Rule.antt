@@ -1,0 +1,143 @@
+-- The rules of refusal: the number and the name of each, this project's profile.
+use Rattle.std.specs.Prelude.{ℕ, List, ◌++◌, codes, decimal}
+use Rattle.mv_io.specs.declared.rule.Rule.{Rule}
+use Rattle.mv_io.specs.declared.rule.Rule.TheVariants.{Leading, Short, Emulation, Long, Head, VpsSyntax, ExternalBase, Splitting, Depth, Spatial, Auxiliary, ReservedDimension, NoViewDimension, SameView, AddedLayerSets, AltOutput, LayerSetBase, LayerSetClosure, LayerSetUnknown, ReservedOutput, DependencyType, VpsLimit, VpsChanged, VpsTid, NoVps, SpsSyntax, SpsRange, Sps3d, SpsScc, ColourPlanes, SpsTid, SpsLimit, PpsSyntax, PpsRange, Pps3d, PpsScc, PocReset, LocationOffsets, ColourMapping, PpsLimit, MissingPps, MissingSps, SliceSyntax, CrossLayerBla, NoBase, LayerOrder, OrphanSlice, SliceDiffers, AddressOrder, TidDiffers, NoIrap, SpsChanged, FormatDiffers, PocRange, PocMismatch, IrapRefers, TooManyRefs, MissingRef, MissingInterLayer, ListEntry, NoRefs, Collocated, Reorder, NoPicture}
+
+-- the number of a rule
+abbrev pub rule_number : Rule → ℕ
+rule_number Leading = 1
+rule_number Short = 2
+rule_number Emulation = 3
+rule_number Long = 4
+rule_number Head = 5
+rule_number VpsSyntax = 10
+rule_number ExternalBase = 11
+rule_number Splitting = 12
+rule_number Depth = 13
+rule_number Spatial = 14
+rule_number Auxiliary = 15
+rule_number ReservedDimension = 16
+rule_number NoViewDimension = 17
+rule_number SameView = 18
+rule_number AddedLayerSets = 19
+rule_number AltOutput = 20
+rule_number LayerSetBase = 21
+rule_number LayerSetClosure = 22
+rule_number LayerSetUnknown = 23
+rule_number ReservedOutput = 24
+rule_number DependencyType = 25
+rule_number VpsLimit = 26
+rule_number VpsChanged = 27
+rule_number VpsTid = 28
+rule_number NoVps = 29
+rule_number SpsSyntax = 30
+rule_number SpsRange = 31
+rule_number Sps3d = 32
+rule_number SpsScc = 33
+rule_number ColourPlanes = 34
+rule_number SpsTid = 35
+rule_number SpsLimit = 36
+rule_number PpsSyntax = 40
+rule_number PpsRange = 41
+rule_number Pps3d = 42
+rule_number PpsScc = 43
+rule_number PocReset = 44
+rule_number LocationOffsets = 45
+rule_number ColourMapping = 46
+rule_number PpsLimit = 47
+rule_number MissingPps = 50
+rule_number MissingSps = 51
+rule_number SliceSyntax = 52
+rule_number CrossLayerBla = 53
+rule_number NoBase = 54
+rule_number LayerOrder = 55
+rule_number OrphanSlice = 56
+rule_number SliceDiffers = 57
+rule_number AddressOrder = 58
+rule_number TidDiffers = 59
+rule_number NoIrap = 60
+rule_number SpsChanged = 61
+rule_number FormatDiffers = 62
+rule_number PocRange = 63
+rule_number PocMismatch = 64
+rule_number IrapRefers = 65
+rule_number TooManyRefs = 66
+rule_number MissingRef = 67
+rule_number MissingInterLayer = 68
+rule_number ListEntry = 69
+rule_number NoRefs = 70
+rule_number Collocated = 71
+rule_number (Reorder set) = 72
+rule_number NoPicture = 73
+
+-- the name of a rule alone
+abbrev pub rule_word : Rule → List ℕ
+rule_word Leading = codes "Leading"
+rule_word Short = codes "Short"
+rule_word Emulation = codes "Emulation"
+rule_word Long = codes "Long"
+rule_word Head = codes "Head"
+rule_word VpsSyntax = codes "VpsSyntax"
+rule_word ExternalBase = codes "ExternalBase"
+rule_word Splitting = codes "Splitting"
+rule_word Depth = codes "Depth"
+rule_word Spatial = codes "Spatial"
+rule_word Auxiliary = codes "Auxiliary"
+rule_word ReservedDimension = codes "ReservedDimension"
+rule_word NoViewDimension = codes "NoViewDimension"
+rule_word SameView = codes "SameView"
+rule_word AddedLayerSets = codes "AddedLayerSets"
+rule_word AltOutput = codes "AltOutput"
+rule_word LayerSetBase = codes "LayerSetBase"
+rule_word LayerSetClosure = codes "LayerSetClosure"
+rule_word LayerSetUnknown = codes "LayerSetUnknown"
+rule_word ReservedOutput = codes "ReservedOutput"
+rule_word DependencyType = codes "DependencyType"
+rule_word VpsLimit = codes "VpsLimit"
+rule_word VpsChanged = codes "VpsChanged"
+rule_word VpsTid = codes "VpsTid"
+rule_word NoVps = codes "NoVps"
+rule_word SpsSyntax = codes "SpsSyntax"
+rule_word SpsRange = codes "SpsRange"
+rule_word Sps3d = codes "Sps3d"
+rule_word SpsScc = codes "SpsScc"
+rule_word ColourPlanes = codes "ColourPlanes"
+rule_word SpsTid = codes "SpsTid"
+rule_word SpsLimit = codes "SpsLimit"
+rule_word PpsSyntax = codes "PpsSyntax"
+rule_word PpsRange = codes "PpsRange"
+rule_word Pps3d = codes "Pps3d"
+rule_word PpsScc = codes "PpsScc"
+rule_word PocReset = codes "PocReset"
+rule_word LocationOffsets = codes "LocationOffsets"
+rule_word ColourMapping = codes "ColourMapping"
+rule_word PpsLimit = codes "PpsLimit"
+rule_word MissingPps = codes "MissingPps"
+rule_word MissingSps = codes "MissingSps"
+rule_word SliceSyntax = codes "SliceSyntax"
+rule_word CrossLayerBla = codes "CrossLayerBla"
+rule_word NoBase = codes "NoBase"
+rule_word LayerOrder = codes "LayerOrder"
+rule_word OrphanSlice = codes "OrphanSlice"
+rule_word SliceDiffers = codes "SliceDiffers"
+rule_word AddressOrder = codes "AddressOrder"
+rule_word TidDiffers = codes "TidDiffers"
+rule_word NoIrap = codes "NoIrap"
+rule_word SpsChanged = codes "SpsChanged"
+rule_word FormatDiffers = codes "FormatDiffers"
+rule_word PocRange = codes "PocRange"
+rule_word PocMismatch = codes "PocMismatch"
+rule_word IrapRefers = codes "IrapRefers"
+rule_word TooManyRefs = codes "TooManyRefs"
+rule_word MissingRef = codes "MissingRef"
+rule_word MissingInterLayer = codes "MissingInterLayer"
+rule_word ListEntry = codes "ListEntry"
+rule_word NoRefs = codes "NoRefs"
+rule_word Collocated = codes "Collocated"
+rule_word (Reorder set) = codes "Reorder"
+rule_word NoPicture = codes "NoPicture"
+
+-- what Display writes of a rule: its name, and behind that of Reorder its output layer set in brackets
+abbrev pub rule_name : Rule → List ℕ
+rule_name (Reorder set) = rule_word (Reorder set) ++ codes "(" ++ decimal set ++ codes ")"
+rule_name rule = rule_word rule
