@@ -50,7 +50,7 @@ length-trailing : (at : ℕ) → length (trailing_bits at) ≡ suc ((8 - (at + 1
 unfolding trailing_bits align_bits
 length-trailing at = ap suc (length-replicate ((8 - (at + 1) % 8) % 8) false)
 
-trailing_bits-is : (at k : ℕ) → (8 - (at + 1) % 8) % 8 ≡ k → trailing_bits at ≡ true ∷ replicate k false
+pub trailing_bits-is : (at k : ℕ) → (8 - (at + 1) % 8) % 8 ≡ k → trailing_bits at ≡ true ∷ replicate k false
 unfolding trailing_bits align_bits
 trailing_bits-is at k e = ap (λ n. true ∷ replicate n false) e
 

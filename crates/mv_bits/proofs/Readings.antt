@@ -1,8 +1,8 @@
 -- What is known of a reader's calls.
-use Rattle.std.proofs.Common.{◌≡◌, ℕ, ◌+◌, ◌-◌, ◌/◌, ◌%◌, ◌^◌, ◌<◌, Bool, pos, neg_ℤ, ◌-ℤ◌, to_z, of_z, w32, List, Result, Ok, Err, refl, IsErr, IfOk, ap, arith}
+use Rattle.std.proofs.Common.{◌≡◌, ℕ, ◌+◌, ◌-◌, ◌/◌, ◌%◌, ◌^◌, ◌<◌, ◌*◌, Bool, ℤ, pos, negsuc, nat_abs, neg_ℤ, ◌-ℤ◌, ◌<ℤ◌, ◌≤ℤ◌, to_z, of_z, w32, List, Result, Ok, Err, refl, IsErr, IfOk, ap, arith}
 use Rattle.std.specs.Int.{div_ceil}
 use Rattle.std.proofs.lemmas.Int.{ints}
-use Rattle.mv_syntax.specs.Bits.{Fault, short, take_bits, take_ue, take_se, kept, se_value}
+use Rattle.mv_syntax.specs.Bits.{Fault, short, take_bits, take_ue, take_se, kept, se_value, se_code}
 use Rattle.mv_syntax.proofs.BitLaws.{take_bits-printed, take_ue-printed}
 use Rattle.mv_bits.specs.Cursor.{Cursor, Takes}
 
@@ -43,3 +43,14 @@ signed_even code size e odd range =
     let half : (code + 1) / 2 ≡ size = omega arith in
     let same : to_z w32 (of_z w32 (pos 0 -ℤ to_z w32 size)) ≡ neg_ℤ (pos size) = omega (arith, ints) in
     rw (even, half) same
+
+-- the program's size, as the ue(v) value
+pub unsigned_positive : (x : ℤ) (size : ℕ) → size ≡ nat_abs x → pos 0 <ℤ x → 2 * size - 1 ≡ se_code x
+unfolding se_code
+unsigned_positive (pos n) size e h = ap (λ m. 2 * m - 1) e
+unsigned_positive (negsuc n) size e h = absurd (omega (arith, ints))
+
+pub unsigned_other : (x : ℤ) (size : ℕ) → size ≡ nat_abs x → x ≤ℤ pos 0 → 2 * size ≡ se_code x
+unfolding se_code
+unsigned_other (pos n) size e h = omega (arith, ints)
+unsigned_other (negsuc n) size e h = ap (λ m. 2 * m) e

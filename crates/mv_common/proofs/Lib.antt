@@ -1,3 +1,6 @@
 pub mod DeltaLaws
 pub mod DeltaSteps
+pub mod Forks
+pub mod ProfileTiers
 pub mod SetLaws
+pub mod Writing

@@ -1,5 +1,6 @@
 pub mod Faults
 pub mod Profile
+pub mod ProfileTier
 pub mod Hrd
 pub mod Vui
 pub mod Deltas

@@ -1,13 +1,15 @@
 -- vui_parameters (E.2.1), part by part: each part is a run of its lines.
-use Rattle.std.specs.Prelude.{◌≡◌, ℕ, Bool, true, false, nat_eq, refl}
+use Rattle.std.specs.Prelude.{◌≡◌, ℕ, Bool, true, false, Option, nat_eq, refl}
 use Rattle.mv_syntax.specs.Table.{Table, ◌>>=◌, u, ue, named, when, shaped}
 use Rattle.mv_syntax.specs.Words.{◌▸◌, ◌>>◌, is_set, or_zero, coded_set}
-use Rattle.mv_common.specs.declared.vui.AspectRatio.{AspectRatio}
-use Rattle.mv_common.specs.declared.vui.Overscan.{Overscan}
-use Rattle.mv_common.specs.declared.vui.VideoSignalType.{VideoSignalType}
-use Rattle.mv_common.specs.declared.vui.ChromaLocation.{ChromaLocation}
-use Rattle.mv_common.specs.declared.vui.DisplayWindow.{DisplayWindow}
-use Rattle.mv_common.specs.declared.vui.BitstreamRestriction.{BitstreamRestriction}
+use Rattle.mv_common.specs.Hrd.{HrdValue, hrd_parameters}
+use Rattle.mv_common.specs.declared.hrd_common.HrdFlags.{HrdFlags}
+use Rattle.mv_common.specs.declared.vui_parts.AspectRatio.{AspectRatio}
+use Rattle.mv_common.specs.declared.vui_parts.Overscan.{Overscan}
+use Rattle.mv_common.specs.declared.vui_parts.VideoSignalType.{VideoSignalType}
+use Rattle.mv_common.specs.declared.vui_parts.ChromaLocation.{ChromaLocation}
+use Rattle.mv_common.specs.declared.vui_parts.DisplayWindow.{DisplayWindow}
+use Rattle.mv_common.specs.declared.vui_parts.BitstreamRestriction.{BitstreamRestriction}
 
 unfoldable pub aspect_ratio : Table AspectRatio
 aspect_ratio = shaped
@@ -129,3 +131,85 @@ bitstream_restriction = shaped
       named "max_bits_per_min_cu_denom" (when present ue)
       named "log2_max_mv_length_horizontal" (when present ue)
       named "log2_max_mv_length_vertical" (when present ue)
+
+pub record VuiTimingValue : Type 0 where
+  pub vui_timing_info_present_flag : ℕ
+  pub vui_num_units_in_tick : Option ℕ
+  pub vui_time_scale : Option ℕ
+  pub vui_poc_proportional_to_timing_flag : Option ℕ
+  pub vui_num_ticks_poc_diff_one_minus1 : Option ℕ
+  pub vui_hrd_parameters_present_flag : Option ℕ
+  pub hrd_parameters : Option HrdValue
+
+-- No hrd_parameters stands before the one of a VUI, whose first group is always coded.
+abbrev pub no_flags : HrdFlags
+no_flags = record { nal = false; vcl = false; sub_pic = false }
+
+unfoldable pub vui_timing : ℕ → Table VuiTimingValue
+vui_timing subs = shaped
+  (λ c. record {
+    vui_timing_info_present_flag = c.0; vui_num_units_in_tick = c.1.0; vui_time_scale = c.1.1.0;
+    vui_poc_proportional_to_timing_flag = c.1.1.1.0; vui_num_ticks_poc_diff_one_minus1 = c.1.1.1.1.0;
+    vui_hrd_parameters_present_flag = c.1.1.1.1.1.0; hrd_parameters = c.1.1.1.1.1.1 })
+  (λ v.
+    v.vui_timing_info_present_flag
+    ▸ v.vui_num_units_in_tick
+    ▸ v.vui_time_scale
+    ▸ v.vui_poc_proportional_to_timing_flag
+    ▸ v.vui_num_ticks_poc_diff_one_minus1
+    ▸ v.vui_hrd_parameters_present_flag
+    ▸ v.hrd_parameters)
+  (λ _. refl)
+  do
+    vui_timing_info_present_flag ← named "vui_timing_info_present_flag" (u 1)
+    let present : Bool = is_set vui_timing_info_present_flag in do
+      named "vui_num_units_in_tick" (when present (u 32))
+      named "vui_time_scale" (when present (u 32))
+      vui_poc_proportional_to_timing_flag ← named "vui_poc_proportional_to_timing_flag" (when present (u 1))
+      named "vui_num_ticks_poc_diff_one_minus1" (when (coded_set vui_poc_proportional_to_timing_flag) ue)
+      vui_hrd_parameters_present_flag ← named "vui_hrd_parameters_present_flag" (when present (u 1))
+      when (coded_set vui_hrd_parameters_present_flag) (hrd_parameters true subs no_flags)
+
+pub record VuiValue : Type 0 where
+  pub aspect_ratio : AspectRatio
+  pub overscan : Overscan
+  pub video_signal_type : VideoSignalType
+  pub chroma_location : ChromaLocation
+  pub neutral_chroma_indication_flag : ℕ
+  pub field_seq_flag : ℕ
+  pub frame_field_info_present_flag : ℕ
+  pub display_window : DisplayWindow
+  pub timing : VuiTimingValue
+  pub bitstream_restriction : BitstreamRestriction
+
+-- vui_parameters(subs)
+unfoldable pub vui_parameters : ℕ → Table VuiValue
+vui_parameters subs = shaped
+  (λ c. record {
+    aspect_ratio = c.0; overscan = c.1.0; video_signal_type = c.1.1.0; chroma_location = c.1.1.1.0;
+    neutral_chroma_indication_flag = c.1.1.1.1.0; field_seq_flag = c.1.1.1.1.1.0;
+    frame_field_info_present_flag = c.1.1.1.1.1.1.0; display_window = c.1.1.1.1.1.1.1.0; timing = c.1.1.1.1.1.1.1.1.0;
+    bitstream_restriction = c.1.1.1.1.1.1.1.1.1 })
+  (λ v.
+    v.aspect_ratio
+    ▸ v.overscan
+    ▸ v.video_signal_type
+    ▸ v.chroma_location
+    ▸ v.neutral_chroma_indication_flag
+    ▸ v.field_seq_flag
+    ▸ v.frame_field_info_present_flag
+    ▸ v.display_window
+    ▸ v.timing
+    ▸ v.bitstream_restriction)
+  (λ _. refl)
+  do
+    aspect_ratio
+    overscan
+    video_signal_type
+    chroma_location
+    named "neutral_chroma_indication_flag" (u 1)
+    named "field_seq_flag" (u 1)
+    named "frame_field_info_present_flag" (u 1)
+    display_window
+    vui_timing subs
+    bitstream_restriction

@@ -1,26 +1,36 @@
 //! The syntax structures that several headers share (H.265 7.3.3, 7.3.4, 7.3.7, E.2): each read and written exactly.
 #![tactic(auto)]
 
+mod cpb;
 mod delta;
 mod deltas;
 mod fault;
 mod fields;
 mod hrd;
+mod hrd_common;
+mod hrd_sub_layer;
 mod limits;
 mod profile;
+mod profile_tier;
 mod scaling_lists;
 mod short_set;
 mod vui;
+mod vui_parts;
 
+pub use cpb::Cpb;
 pub use delta::{Delta, Side};
 pub use fault::FieldFault;
 pub use fields::{
     coded_set, put_u8, put_u8_if, put_u16_if, put_u32, put_u32_if, put_u64, put_ue, put_ue_if, u8_if, u8_of,
     u16_if, u32_if, u32_of, u64_of, ue_if,
 };
-pub use hrd::{Cpb, HrdCommon};
+pub use hrd::{Hrd, HrdArgs};
+pub use hrd_common::{HrdCommon, HrdFlags, flags_in_force};
+pub use hrd_sub_layer::HrdSubLayer;
 pub use limits::{put_ue_within, put_ue_within_if, ue_within, ue_within_if};
 pub use profile::Profile;
+pub use profile_tier::{ProfileArgs, ProfileTier};
 pub use scaling_lists::{ScalingArgs, ScalingList, ScalingLists, ScalingListsOfSize};
 pub use short_set::{ShortArgs, ShortSet};
-pub use vui::{AspectRatio, BitstreamRestriction, ChromaLocation, DisplayWindow, Overscan, VideoSignalType};
+pub use vui::{Vui, VuiArgs, VuiTiming};
+pub use vui_parts::{AspectRatio, BitstreamRestriction, ChromaLocation, DisplayWindow, Overscan, VideoSignalType};

@@ -25,7 +25,7 @@ pub struct Profile {
 }
 
 #[tactic(auto, unfolding(crate::specs::Profile::profile))]
-pub fn profile_of(bits: &mut BitReader) -> Result<Profile, FieldFault>
+pub(crate) fn profile_of(bits: &mut BitReader) -> Result<Profile, FieldFault>
     ensures { Fills (λ v. v) means bits.old bits.new result (read profile bits.old.left) }
 {
     Ok(Profile {
@@ -43,7 +43,7 @@ pub fn profile_of(bits: &mut BitReader) -> Result<Profile, FieldFault>
 }
 
 #[tactic(auto, unfolding(crate::specs::Profile::profile))]
-pub fn put_profile(out: &mut BitWriter, v: &Profile) -> Result<(), AllocError>
+pub(crate) fn put_profile(out: &mut BitWriter, v: &Profile) -> Result<(), AllocError>
     requires { Valid profile v.now }
     ensures { OnOk result (out.new ≡ put profile v.now out.old) }
 {

@@ -401,6 +401,12 @@ unfolding se_code
 se_code-range (pos n) low high = omega (arith, ints)
 se_code-range (negsuc n) low high = omega (arith, ints)
 
+-- a number with a code is above -2 ^ 31
+pub se_code-above : (x : ℤ) → se_code x < 2 ^ 32 - 1 → negsuc (2 ^ 31 - 1) <ℤ x
+unfolding se_code
+se_code-above (pos n) h = omega (arith, ints)
+se_code-above (negsuc n) h = omega (arith, ints)
+
 signed_range : (sign : Bool) (n : ℕ) → n < 2 ^ 31 → (negsuc (2 ^ 31 - 1) <ℤ cond sign (pos n) (neg_ℤ (pos n))) × (cond sign (pos n) (neg_ℤ (pos n)) <ℤ pos (2 ^ 31))
 signed_range true n h = (omega (arith, ints), omega (arith, ints))
 signed_range false zero h = (omega (arith, ints), omega (arith, ints))
