@@ -93,7 +93,7 @@ u_bits-leading n v low high =
     let below : rest < 2 ^ n = omega (arith, pow-suc 2 n) in
     let parts : 1 * 2 ^ n + rest ≡ v = omega arith in
     let top : bit_at v n ≡ 1
-        = ap (λ w. bit_at w n) (sym parts) ∙ ap (λ q. q % 2) (shr_high 1 n rest below)
+    = ap (λ w. bit_at w n) (sym parts) ∙ ap (λ q. q % 2) (shr_high 1 n rest below)
     in
     ap₂ (λ x b. nat_eq x 1 ∷ b)
     top

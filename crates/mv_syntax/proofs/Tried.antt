@@ -1,6 +1,6 @@
 -- Tables of H.265 that ask most of the language, as terms.
-use Rattle.std.specs.Prelude.{◌≡◌, ℕ, zero, suc, ◌+◌, ◌-◌, ◌*◌, ◌^◌, Bool, true, false, not, ◌&&◌, ◌||◌, List, [], ◌∷◌, ◌++◌, length, reverse, get_or, map, filter, take, cond, ℤ, pos, negsuc, neg_ℤ, ◌+ℤ◌, int_lt, nat_lt, nat_le, nat_eq, Option, Some, None, is_some, sum, max, if◌then◌else◌, refl}
-use Rattle.mv_syntax.specs.Table.{Table, u, ue, se, named, ◌>>=◌, when, repeat, by_rule}
+use Rattle.std.specs.Prelude.{ℕ, zero, suc, ◌+◌, ◌-◌, ◌^◌, Bool, false, not, ◌&&◌, ◌||◌, List, [], ◌∷◌, ◌++◌, length, reverse, get_or, map, filter, ℤ, pos, neg_ℤ, ◌+ℤ◌, int_lt, nat_lt, nat_le, nat_eq, Option, None, is_some, if◌then◌else◌}
+use Rattle.mv_syntax.specs.Table.{Table, u, ue, se, named, ◌>>=◌, when}
 use Rattle.mv_syntax.specs.Words.{◌>>◌, ◌!◌∶◌, tried, over, is, is_set, ◌otherwise◌, or_zero, coded_set, last_coded, ◌⊗◌, for_each, for_below, for_range, whole_bytes}
 use Rattle.mv_syntax.specs.Loops.{columns}
 
@@ -41,17 +41,17 @@ hrd_parameters common subs before = do
       named "au_cpb_removal_delay_length_minus1" (when any (u 5))
       named "dpb_output_delay_length_minus1" (when any (u 5))
       let nal : Bool = if common then coded_set nal_hrd_parameters_present_flag else before.nal in
-        let vcl : Bool = if common then coded_set vcl_hrd_parameters_present_flag else before.vcl in
+          let vcl : Bool = if common then coded_set vcl_hrd_parameters_present_flag else before.vcl in
           let sub_pic : Bool = if common then coded_sub_pic else before.sub_pic in
-            for_range 0 subs λ i _. do
-              fixed_pic_rate_general_flag ← named "fixed_pic_rate_general_flag" (u 1)
-              fixed_pic_rate_within_cvs_flag ← named "fixed_pic_rate_within_cvs_flag" (when (not (is_set fixed_pic_rate_general_flag)) (u 1))
-              let within_cvs : Bool = is_set (fixed_pic_rate_within_cvs_flag otherwise 1) in do
-                elemental_duration_in_tc_minus1 ← named "elemental_duration_in_tc_minus1" (when within_cvs ue)
-                low_delay_hrd_flag ← named "low_delay_hrd_flag" (when (not within_cvs) (u 1))
-                cpb_cnt_minus1 ← named "cpb_cnt_minus1" (when (not (coded_set low_delay_hrd_flag)) (ue ! 0 ∶ over 31))
-                when nal (sub_layer_hrd sub_pic (or_zero cpb_cnt_minus1))
-                when vcl (sub_layer_hrd sub_pic (or_zero cpb_cnt_minus1))
+          for_range 0 subs λ i _. do
+            fixed_pic_rate_general_flag ← named "fixed_pic_rate_general_flag" (u 1)
+            fixed_pic_rate_within_cvs_flag ← named "fixed_pic_rate_within_cvs_flag" (when (not (is_set fixed_pic_rate_general_flag)) (u 1))
+            let within_cvs : Bool = is_set (fixed_pic_rate_within_cvs_flag otherwise 1) in do
+              elemental_duration_in_tc_minus1 ← named "elemental_duration_in_tc_minus1" (when within_cvs ue)
+              low_delay_hrd_flag ← named "low_delay_hrd_flag" (when (not within_cvs) (u 1))
+              cpb_cnt_minus1 ← named "cpb_cnt_minus1" (when (not (coded_set low_delay_hrd_flag)) (ue ! 0 ∶ over 31))
+              when nal (sub_layer_hrd sub_pic (or_zero cpb_cnt_minus1))
+              when vcl (sub_layer_hrd sub_pic (or_zero cpb_cnt_minus1))
 
 -- ---- st_ref_pic_set(idx, num) (7.3.7, 7.4.8)
 pub record Delta : Type 0 where
@@ -107,12 +107,14 @@ predicted_set idx num earlier = fields ! 0 ∶ (λ v. over 16 (length (deltas v)
     turn = do
       used_by_curr_pic_flag ← named "used_by_curr_pic_flag" (u 1)
       named "use_delta_flag" (when (not (is_set used_by_curr_pic_flag)) (u 1))
+
     fields : Table (Option ℕ ⊗ ℕ ⊗ ℕ ⊗ List ℕ ⊗ List (Option ℕ))
     fields = do
       delta_idx_minus1 ← named "delta_idx_minus1" (when (nat_eq idx num) (ue ! 0 ∶ over (idx - 1)))
       delta_rps_sign ← named "delta_rps_sign" (u 1)
       abs_delta_rps_minus1 ← named "abs_delta_rps_minus1" (ue ! 0 ∶ over 32767)
       columns 0 (length (reference earlier idx delta_idx_minus1) + 1) (λ j. turn)
+
     deltas : Option ℕ ⊗ ℕ ⊗ ℕ ⊗ List ℕ ⊗ List (Option ℕ) → List Delta
     deltas v = predicted (reference earlier idx v.0) (rps_delta v.1.0 v.1.1.0) v.1.1.1.0 v.1.1.1.1
 
@@ -165,28 +167,28 @@ layers_and_dependencies m sets lacks_base lacks_direct unknown = do
   vps_nuh_layer_id_present_flag ← named "vps_nuh_layer_id_present_flag" (u 1)
   layers ← for_range 1 m λ i before. do
     named "layer_id_in_nuh" (when (is_set vps_nuh_layer_id_present_flag)
-      (u 6 ! 26 ∶ (λ n. nat_eq n 63 || not (nat_lt (last_coded (map (λ l. l.0) before) 0) n))))
+        (u 6 ! 26 ∶ (λ n. nat_eq n 63 || not (nat_lt (last_coded (map (λ l. l.0) before) 0) n))))
     named "dimension_id" (u (or_zero dimension_id_len_minus1 + 1) ! 18 ∶ (λ n. nat_eq n 0 || contains n (map (λ l. l.1) before)))
   view_id_len ← named "view_id_len" (u 4 ! 26 ∶ (λ n. nat_lt 0 n && any_of (λ l. nat_lt m l.1) layers))
   view_id_val ← when (nat_lt 0 view_id_len) (for_range 0 m λ i _. named "view_id_val" (u view_id_len))
   direct_dependency_flag ← for_range 1 m λ i _. for_below 0 i λ j _. named "direct_dependency_flag" (u 1)
   tried
-    ((21, any_of (lacks_base direct_dependency_flag) sets)
+      ((21, any_of (lacks_base direct_dependency_flag) sets)
       ∷ (22, any_of (lacks_direct direct_dependency_flag) sets)
       ∷ (23, any_of (unknown (map (λ l. or_zero l.0) layers)) sets)
       ∷ [])
-    (named "num_add_layer_sets" (when (nat_lt 1 m) (ue ! 19 ∶ over 0)))
+      (named "num_add_layer_sets" (when (nat_lt 1 m) (ue ! 19 ∶ over 0)))
 
 -- the output layer sets: how many layers set i has, which of them are necessary, and whether one output has direct references
 unfoldable pub output_layer_sets : ℕ → ℕ → ℕ → ℕ → (ℕ → Option ℕ → List ℕ) → (ℕ → Option ℕ → Option (List ℕ) → ℕ → Bool) → (ℕ → Option ℕ → Option (List ℕ) → Bool) → Table (List (Option ℕ ⊗ Option (List ℕ) ⊗ List (Option ℕ) ⊗ Option ℕ))
 output_layer_sets num_layer_sets num_add_olss idc num_profiles_minus1 layers necessary one_output_refers =
     for_below 1 (num_layer_sets + num_add_olss) λ i before. do
       layer_set_idx_for_ols_minus1 ← named "layer_set_idx_for_ols_minus1" (when (nat_lt 2 num_layer_sets && nat_le num_layer_sets i)
-        (u (clog2 (num_layer_sets - 1)) ! 26 ∶ over (num_layer_sets - 2)))
+          (u (clog2 (num_layer_sets - 1)) ! 26 ∶ over (num_layer_sets - 2)))
       output_layer_flag ← when (nat_le num_layer_sets i || nat_eq idc 2)
-        (for_each (length (layers i layer_set_idx_for_ols_minus1)) λ _. named "output_layer_flag" (u 1))
+          (for_each (length (layers i layer_set_idx_for_ols_minus1)) λ _. named "output_layer_flag" (u 1))
       for_each (length (layers i layer_set_idx_for_ols_minus1)) λ turns.
-        named "profile_tier_level_idx" (when (necessary i layer_set_idx_for_ols_minus1 output_layer_flag (length turns) && nat_lt 0 num_profiles_minus1)
+          named "profile_tier_level_idx" (when (necessary i layer_set_idx_for_ols_minus1 output_layer_flag (length turns) && nat_lt 0 num_profiles_minus1)
           (u (clog2 (num_profiles_minus1 + 1))))
       named "alt_output_layer_flag" (when (one_output_refers i layer_set_idx_for_ols_minus1 output_layer_flag) (u 1 ! 20 ∶ is 1))
 
@@ -233,11 +235,11 @@ inter_layer_part ctx = do
   inter_layer_pred_enabled_flag ← named "inter_layer_pred_enabled_flag" (u 1)
   let more : Bool = is_set inter_layer_pred_enabled_flag && nat_lt 1 ctx.d in do
     num_inter_layer_ref_pics_minus1 ← named "num_inter_layer_ref_pics_minus1" (when (more && not ctx.max_one)
-      (u (clog2 ctx.d) ! 52 ∶ (λ n. nat_le ctx.d n || (not (idc_coded ctx (n + 1)) && over (length ctx.eligible) (n + 1) && nat_lt 0 (length ctx.eligible)))))
+        (u (clog2 ctx.d) ! 52 ∶ (λ n. nat_le ctx.d n || (not (idc_coded ctx (n + 1)) && over (length ctx.eligible) (n + 1) && nat_lt 0 (length ctx.eligible)))))
     let active : ℕ = num_active ctx inter_layer_pred_enabled_flag num_inter_layer_ref_pics_minus1 in
-      when (more && idc_coded ctx active)
+        when (more && idc_coded ctx active)
         (for_each active λ before. named "inter_layer_pred_layer_idc"
-          (u (clog2 ctx.d) ! 52 ∶ (λ n. nat_le ctx.d n || any_of (λ m. nat_le n m) before)))
+        (u (clog2 ctx.d) ! 52 ∶ (λ n. nat_le ctx.d n || any_of (λ m. nat_le n m) before)))
 
 -- the modifications of a list, where NumPicTotalCurr is known
 unfoldable pub list_modification : Bool → ℕ → ℕ → Option ℕ → Table (Option ℕ ⊗ Option (List ℕ) ⊗ Option ℕ ⊗ Option (List ℕ))

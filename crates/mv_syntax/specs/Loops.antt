@@ -1,5 +1,5 @@
 -- Loops of a table, and what is left of them at an index, as the code that reads them meets them.
-use Rattle.std.specs.Prelude.{◌≡◌, ℕ, zero, suc, ◌+◌, ◌-◌, Bool, List, [], ◌∷◌, ◌++◌, length, Result, Ok, Err, refl}
+use Rattle.std.specs.Prelude.{◌≡◌, ℕ, zero, suc, ◌+◌, ◌-◌, Bool, List, [], ◌∷◌, ◌++◌, length, Result, Ok, refl}
 use Rattle.std.proofs.Common.{ap}
 use Rattle.mv_syntax.specs.Bits.{Fault}
 use Rattle.mv_syntax.specs.Bits as bits
@@ -38,7 +38,7 @@ columns first n t = shaped unzipped zipped zipped-unzipped (repeat (λ turn. fir
 unfoldable pub columns_after : {A B : Type 0} → ℕ → ℕ → (ℕ → List A → List B → Table (A × B)) → Table (List A × List B)
 columns_after first n t =
     shaped unzipped zipped zipped-unzipped
-      (repeat (λ turn. first + turn) n (λ before. t (first + length before) (unzipped before).0 (unzipped before).1))
+    (repeat (λ turn. first + turn) n (λ before. t (first + length before) (unzipped before).0 (unzipped before).1))
 
 -- What n more turns of a loop read from bits b, from index i on and behind the items so far.
 abbrev pub turns_of_items : {A : Type 0} → (ℕ → List A → Table A) → ℕ → ℕ → List A → List Bool → Result (List A × List Bool) Fault
@@ -46,7 +46,7 @@ turns_of_items t zero i before b = Ok (before, b)
 turns_of_items t (suc n) i before b = bits.◌>>=◌ (read (t i before) b) (λ x. turns_of_items t n (i + 1) (before ++ x.0 ∷ []) x.1)
 
 abbrev pub turns_of_columns :
-  {A B : Type 0} → (ℕ → List A → List B → Table (A × B)) → ℕ → ℕ → List A → List B → List Bool → Result ((List A × List B) × List Bool) Fault
+    {A B : Type 0} → (ℕ → List A → List B → Table (A × B)) → ℕ → ℕ → List A → List B → List Bool → Result ((List A × List B) × List Bool) Fault
 turns_of_columns t zero i ones others b = Ok ((ones, others), b)
 turns_of_columns t (suc n) i ones others b =
     bits.◌>>=◌ (read (t i ones others) b) (λ x. turns_of_columns t n (i + 1) (ones ++ x.0.0 ∷ []) (others ++ x.0.1 ∷ []) x.1)
@@ -62,5 +62,5 @@ unfoldable pub rest_of_columns : {A B : Type 0} → (ℕ → Table (A × B)) →
 rest_of_columns t i end ones others b = turns_of_columns (λ j _ _. t j) (end - i) i ones others b
 
 unfoldable pub rest_of_columns_after :
-  {A B : Type 0} → (ℕ → List A → List B → Table (A × B)) → ℕ → ℕ → List A → List B → List Bool → Result ((List A × List B) × List Bool) Fault
+    {A B : Type 0} → (ℕ → List A → List B → Table (A × B)) → ℕ → ℕ → List A → List B → List Bool → Result ((List A × List B) × List Bool) Fault
 rest_of_columns_after t i end ones others b = turns_of_columns t (end - i) i ones others b

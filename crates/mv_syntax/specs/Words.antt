@@ -1,8 +1,8 @@
 -- The words that tables are written with, beside the constructors.
-use Rattle.std.specs.Prelude.{◌≡◌, ℕ, zero, suc, ◌+◌, ◌-◌, Bool, true, false, not, List, [], ◌∷◌, ◌++◌, length, Option, Some, None, nat_lt, nat_eq, refl, if◌then◌else◌}
+use Rattle.std.specs.Prelude.{◌≡◌, ℕ, suc, ◌+◌, ◌-◌, Bool, not, List, [], ◌∷◌, length, Option, Some, None, nat_lt, nat_eq, refl, if◌then◌else◌}
 use Rattle.std.proofs.Common.{ap}
 use Rattle.mv_syntax.specs.Bits.{align_bits, trailing_bits}
-use Rattle.mv_syntax.specs.Table.{Table, refused, checked, ◌>>=◌, repeat, padded, shaped}
+use Rattle.mv_syntax.specs.Table.{Table, refused, checked, ◌>>=◌, repeat, padded}
 
 -- `t ! r ∶ bad`: the field t, which breaks rule r where its value is bad.
 infixl 20 ◌!◌∶◌
