@@ -11,8 +11,10 @@ use Rattle.mv_syntax.specs.Loops.{columns}
 use Rattle.mv_syntax.proofs.LoopLaws.{each-valid, columns-lengths, columns-valid}
 use Rattle.mv_common.specs.ShortSetValue.{ShortSetValue}
 use Rattle.mv_common.specs.declared.delta.Delta.{Delta}
+use Rattle.mv_common.specs.declared.delta.Side.{Side}
+use Rattle.mv_common.specs.declared.delta.Side.TheVariants.{Before, After}
 use Rattle.mv_common.specs.Deltas.{IsSided, IsNear, predicted, direct, reference, deltas, deltas_of_each}
-use Rattle.mv_common.specs.ShortSet.{candidate_flags, negative_picture, positive_picture, num_candidates, set_fields, st_ref_pic_set, ValidSets, AreShortArgs}
+use Rattle.mv_common.specs.ShortSet.{candidate_flags, picture, num_candidates, set_fields, st_ref_pic_set, ValidSets, AreShortArgs}
 use Rattle.mv_common.proofs.DeltaLaws.{each-take, deltas-at, deltas_of_each-take, length-deltas_of_each, deltas-sided, near_more, direct-near, predicted-near}
 
 -- ---- fields
@@ -28,19 +30,13 @@ sum_within : (c : Bool) (first most : ℕ) (field : Option ℕ) → Valid (when 
 sum_within c first most None h = omega arith
 sum_within c first most (Some field) h = omega (arith, ltb-false most (first + field) h.1.1)
 
-negatives-low : (n : ℕ) (minus1 flags : List ℕ) → Valid (columns 0 n (λ j. negative_picture)) (minus1, flags) → All (λ m. m ≤ 32767) minus1
-unfolding negative_picture
-negatives-low n minus1 flags h =
-    All-from_get_or (λ m. m ≤ 32767) minus1 0 (λ i lt. ltb-false 32767 (get_or minus1 i 0) ((columns-valid (λ j. negative_picture) 0 n minus1 flags i i 0 0 h lt (omega arith)).0.1))
-
-positives-low : (n : ℕ) (minus1 flags : List ℕ) → Valid (columns 0 n (λ j. positive_picture)) (minus1, flags) → All (λ m. m ≤ 32767) minus1
-unfolding positive_picture
-positives-low n minus1 flags h =
-    All-from_get_or (λ m. m ≤ 32767) minus1 0 (λ i lt. ltb-false 32767 (get_or minus1 i 0) ((columns-valid (λ j. positive_picture) 0 n minus1 flags i i 0 0 h lt (omega arith)).0.1))
+pictures-low : (side : Side) (n : ℕ) (minus1 flags : List ℕ) → Valid (columns 0 n (picture side)) (minus1, flags) → All (λ m. m ≤ 32767) minus1
+unfolding picture
+pictures-low side n minus1 flags h =
+    All-from_get_or (λ m. m ≤ 32767) minus1 0 (λ i lt. ltb-false 32767 (get_or minus1 i 0) ((columns-valid (picture side) 0 n minus1 flags i i 0 0 h lt (omega arith)).0.1))
 
 -- ---- a valid set
 pub record SetFacts (idx : ℕ) (earlier : List (List Delta)) (s : ShortSetValue) : Type 0 where
-  pub few : length (deltas idx earlier s) ≤ 16
   pub back : coded_set s.inter_ref_pic_set_prediction_flag ≡ true → or_zero s.delta_idx_minus1 < idx
   pub abs : or_zero s.abs_delta_rps_minus1 ≤ 32767
   pub used : coded_set s.inter_ref_pic_set_prediction_flag ≡ true → length s.used_by_curr_pic_flag ≡ length (reference idx earlier s.delta_idx_minus1) + 1
@@ -56,35 +52,43 @@ candidates-are : (c : Bool) (ref : List Delta) (n : ℕ) → n ≡ num_candidate
 candidates-are true ref n e h = e
 candidates-are false ref n e h = absurd (cc)
 
-pub set_facts : (idx num : ℕ) (earlier : List (List Delta)) (s : ShortSetValue) → Valid (st_ref_pic_set idx num earlier) s → SetFacts idx earlier s
-unfolding st_ref_pic_set set_fields
+pub set_facts : (idx num : ℕ) (earlier : List (List Delta)) (s : ShortSetValue) → Valid (set_fields idx num earlier) s → SetFacts idx earlier s
+unfolding set_fields
 set_facts idx num earlier s h =
     let c = coded_set s.inter_ref_pic_set_prediction_flag in
     let ref = reference idx earlier s.delta_idx_minus1 in
-    let i = h.0.0 in
+    let i = h.0 in
     let j = i.1.1.1.1 in
     let index : or_zero s.delta_idx_minus1 ≤ idx - 1 = within (c && nat_eq idx num) (idx - 1) s.delta_idx_minus1 i.1.0 in
     let later : c ≡ true → 0 < idx = λ e. ltb-true 0 idx (coded_flag (nat_lt 0 idx) 1 s.inter_ref_pic_set_prediction_flag i.0 e) in
     let flags : (length s.used_by_curr_pic_flag ≡ num_candidates c ref) × (length s.use_delta_flag ≡ num_candidates c ref) =
-      columns-lengths (λ k. candidate_flags) 0 (num_candidates c ref) s.used_by_curr_pic_flag s.use_delta_flag j.0 in
+      columns-lengths candidate_flags 0 (num_candidates c ref) s.used_by_curr_pic_flag s.use_delta_flag j.0 in
     let lengths0 : (length s.delta_poc_s0_minus1 ≡ or_zero s.num_negative_pics) × (length s.used_by_curr_pic_s0_flag ≡ or_zero s.num_negative_pics) =
-      columns-lengths (λ k. negative_picture) 0 (or_zero s.num_negative_pics) s.delta_poc_s0_minus1 s.used_by_curr_pic_s0_flag j.1.1.1.0 in
+      columns-lengths (picture Before) 0 (or_zero s.num_negative_pics) s.delta_poc_s0_minus1 s.used_by_curr_pic_s0_flag j.1.1.1.0 in
     let lengths1 : (length s.delta_poc_s1_minus1 ≡ or_zero s.num_positive_pics) × (length s.used_by_curr_pic_s1_flag ≡ or_zero s.num_positive_pics) =
-      columns-lengths (λ k. positive_picture) 0 (or_zero s.num_positive_pics) s.delta_poc_s1_minus1 s.used_by_curr_pic_s1_flag j.1.1.1.1 in
+      columns-lengths (picture After) 0 (or_zero s.num_positive_pics) s.delta_poc_s1_minus1 s.used_by_curr_pic_s1_flag j.1.1.1.1 in
     let most0 : or_zero s.num_negative_pics ≤ 16 = within (not c) 16 s.num_negative_pics j.1.0 in
     let most1 : or_zero s.num_positive_pics ≤ 16 = sum_within (not c) (or_zero s.num_negative_pics) 16 s.num_positive_pics j.1.1.0 in
     record {
-      few = ltb-false 16 (length (deltas idx earlier s)) h.1;
       back = λ e. omega (arith, later e);
       abs = within c 32767 s.abs_delta_rps_minus1 i.1.1.1.0;
       used = λ e. candidates-are c ref (length s.used_by_curr_pic_flag) flags.0 e;
       use_delta = λ e. candidates-are c ref (length s.use_delta_flag) flags.1 e;
       flags0 = lengths0.1 ∙ sym lengths0.0;
       few0 = omega (arith, lengths0.0);
-      low0 = negatives-low (or_zero s.num_negative_pics) s.delta_poc_s0_minus1 s.used_by_curr_pic_s0_flag j.1.1.1.0;
+      low0 = pictures-low Before (or_zero s.num_negative_pics) s.delta_poc_s0_minus1 s.used_by_curr_pic_s0_flag j.1.1.1.0;
       flags1 = lengths1.1 ∙ sym lengths1.0;
       few1 = omega (arith, lengths1.0);
-      low1 = positives-low (or_zero s.num_positive_pics) s.delta_poc_s1_minus1 s.used_by_curr_pic_s1_flag j.1.1.1.1 }
+      low1 = pictures-low After (or_zero s.num_positive_pics) s.delta_poc_s1_minus1 s.used_by_curr_pic_s1_flag j.1.1.1.1 }
+
+-- what holds of its fields, and that its deltas are at most 16
+pub fields_valid : (idx num : ℕ) (earlier : List (List Delta)) (s : ShortSetValue) → Valid (st_ref_pic_set idx num earlier) s → Valid (set_fields idx num earlier) s
+unfolding st_ref_pic_set
+fields_valid idx num earlier s h = h.0
+
+pub deltas-few : (idx num : ℕ) (earlier : List (List Delta)) (s : ShortSetValue) → Valid (st_ref_pic_set idx num earlier) s → length (deltas idx earlier s) ≤ 16
+unfolding st_ref_pic_set
+deltas-few idx num earlier s h = ltb-false 16 (length (deltas idx earlier s)) h.1
 
 -- its deltas stand near, where those of the sets before it do
 pub deltas-near : (idx : ℕ) (earlier : List (List Delta)) (s : ShortSetValue) → SetFacts idx earlier s
@@ -133,7 +137,8 @@ near-below num sets h (suc n) within k lt = go (nat_lt k n) refl (near-below num
       let in_sets : k < length sets = omega arith in
       rw (deltas-at sets k no_set in_sets)
         (deltas-near k (deltas_of_each (take k sets)) (get_or sets k no_set)
-          (set_facts k num (deltas_of_each (take k sets)) (get_or sets k no_set) (valid-at num sets k no_set h in_sets))
+          (set_facts k num (deltas_of_each (take k sets)) (get_or sets k no_set)
+            (fields_valid k num (deltas_of_each (take k sets)) (get_or sets k no_set) (valid-at num sets k no_set h in_sets)))
           (λ r less. subst (λ l. All (IsNear (32768 * (r + 16))) l)
             (sym (get_or-take k (deltas_of_each sets) r [] less) ∙ ap (λ l. get_or l r []) (deltas_of_each-take k sets))
             (below r (omega arith))))
@@ -147,11 +152,11 @@ pub record ReferenceFacts (some : List Delta) : Type 0 where
 pub reference_facts : (idx num : ℕ) (sets : List ShortSetValue) (r : ℕ) → AreShortArgs idx num sets → r < idx → ReferenceFacts (get_or (deltas_of_each sets) r [])
 reference_facts idx num sets r args less =
     let in_sets : r < length sets = omega (arith, args.all_earlier) in
-    let facts : SetFacts r (deltas_of_each (take r sets)) (get_or sets r no_set) =
-      set_facts r num (deltas_of_each (take r sets)) (get_or sets r no_set) (valid-at num sets r no_set args.valid in_sets) in
+    let few : length (deltas r (deltas_of_each (take r sets)) (get_or sets r no_set)) ≤ 16 =
+      deltas-few r num (deltas_of_each (take r sets)) (get_or sets r no_set) (valid-at num sets r no_set args.valid in_sets) in
     let is : deltas r (deltas_of_each (take r sets)) (get_or sets r no_set) ≡ get_or (deltas_of_each sets) r [] = sym (deltas-at sets r no_set in_sets) in
     record {
-      few = subst (λ l. length l ≤ 16) is facts.few;
+      few = subst (λ l. length l ≤ 16) is few;
       near = All-weaker (IsNear (32768 * (r + 16))) (IsNear (2 ^ 22))
         (λ one near. near_more (32768 * (r + 16)) (2 ^ 22) one (omega (arith, args.few, args.within)) near)
         (get_or (deltas_of_each sets) r []) (near-below num sets args.valid (length sets) (omega arith) r in_sets);
@@ -160,7 +165,7 @@ reference_facts idx num sets r args less =
 -- a set before it is valid among the sets before that
 pub record EarlierFacts (r num : ℕ) (sets : List ShortSetValue) (x : ShortSetValue) : Type 0 where
   pub args : AreShortArgs r num (take r sets)
-  pub valid : Valid (st_ref_pic_set r num (deltas_of_each (take r sets))) (get_or sets r x)
+  pub valid : Valid (set_fields r num (deltas_of_each (take r sets))) (get_or sets r x)
   pub is : get_or (deltas_of_each sets) r [] ≡ deltas r (deltas_of_each (take r sets)) (get_or sets r x)
 
 pub earlier_facts : (idx num : ℕ) (sets : List ShortSetValue) (r : ℕ) (x : ShortSetValue) → AreShortArgs idx num sets → r < idx → EarlierFacts r num sets x
@@ -172,5 +177,5 @@ earlier_facts idx num sets r x args less =
         few = args.few;
         all_earlier = length-take-le r sets (omega arith);
         valid = each-take (λ before s. Valid (st_ref_pic_set (length before) num (deltas_of_each before)) s) [] sets r args.valid };
-      valid = valid-at num sets r x args.valid in_sets;
+      valid = fields_valid r num (deltas_of_each (take r sets)) (get_or sets r x) (valid-at num sets r x args.valid in_sets);
       is = deltas-at sets r x in_sets }

@@ -1,5 +1,5 @@
 -- The scaling lists of a parameter set, scaling_list_data (7.3.4).
-use Rattle.std.specs.Prelude.{◌≡◌, ℕ, ◌+◌, ◌*◌, ◌/◌, ◌^◌, min, Bool, not, ◌&&◌, List, nat_lt, nat_eq, refl, if◌then◌else◌}
+use Rattle.std.specs.Prelude.{◌≡◌, ℕ, ℤ, ◌+◌, ◌*◌, ◌/◌, ◌^◌, min, Bool, not, ◌&&◌, List, nat_lt, nat_eq, refl, if◌then◌else◌}
 use Rattle.mv_syntax.specs.Table.{Table, ◌>>=◌, u, ue, se, named, when, repeat, shaped}
 use Rattle.mv_syntax.specs.Words.{◌▸◌, ◌>>◌, is_set}
 use Rattle.mv_syntax.specs.Loops.{items}
@@ -8,6 +8,12 @@ use Rattle.mv_common.specs.ScalingListValue.{ScalingListValue}
 -- How many coefficients are coded for a list of size s (7.3.4, coefNum).
 abbrev pub num_coefficients : ℕ → ℕ
 num_coefficients s = min 64 (2 ^ (4 + 2 * s))
+
+unfoldable pub coefficient : ℕ → Table ℤ
+coefficient k = named "scaling_list_delta_coef" se
+
+unfoldable pub coefficients : Bool → ℕ → Table (List ℤ)
+coefficients coded s = items 0 (if coded then num_coefficients s else 0) coefficient
 
 -- One list of size s, for blocks of 2 ^ (2 + s) by 2 ^ (2 + s) samples.
 unfoldable pub scaling_list : ℕ → Table ScalingListValue
@@ -28,7 +34,7 @@ scaling_list s = shaped
     let has_coefficients : Bool = is_set scaling_list_pred_mode_flag in do
       named "scaling_list_pred_matrix_id_delta" (when (not has_coefficients) ue)
       named "scaling_list_dc_coef_minus8" (when (has_coefficients && nat_lt 1 s) se)
-      items 0 (if has_coefficients then num_coefficients s else 0) (λ k. named "scaling_list_delta_coef" se)
+      coefficients has_coefficients s
 
 -- The lists of size s are those of matrices 0 to 5, of size 3 those of matrices 0 and 3.
 abbrev pub matrix_step : ℕ → ℕ

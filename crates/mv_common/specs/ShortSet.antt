@@ -6,25 +6,30 @@ use Rattle.mv_syntax.specs.Words.{◌▸◌, ◌⊗◌, ◌>>◌, ◌!◌∶◌,
 use Rattle.mv_syntax.specs.Loops.{columns}
 use Rattle.mv_common.specs.ShortSetValue.{ShortSetValue}
 use Rattle.mv_common.specs.Deltas.{reference, deltas, deltas_of_each}
+use Prim.Native.String.{String}
 use Rattle.mv_common.specs.declared.delta.Delta.{Delta}
+use Rattle.mv_common.specs.declared.delta.Side.{Side}
+use Rattle.mv_common.specs.declared.delta.Side.TheVariants.{Before, After}
 
 -- The flags of one candidate of a predicted set.
-unfoldable pub candidate_flags : Table (ℕ ⊗ Option ℕ)
-candidate_flags = do
+unfoldable pub candidate_flags : ℕ → Table (ℕ ⊗ Option ℕ)
+candidate_flags j = do
   used_by_curr_pic_flag ← named "used_by_curr_pic_flag" (u 1)
   named "use_delta_flag" (when (not (is_set used_by_curr_pic_flag)) (u 1))
 
--- One picture before the current one of a set that is coded directly.
-unfoldable pub negative_picture : Table (ℕ ⊗ ℕ)
-negative_picture = do
-  named "delta_poc_s0_minus1" (ue ! 0 ∶ over 32767)
-  named "used_by_curr_pic_s0_flag" (u 1)
+-- One picture of a set that is coded directly: s0 before the current one, s1 after it.
+abbrev pub delta_poc_minus1 : Side → String
+delta_poc_minus1 Before = "delta_poc_s0_minus1"
+delta_poc_minus1 After = "delta_poc_s1_minus1"
 
--- One picture after it.
-unfoldable pub positive_picture : Table (ℕ ⊗ ℕ)
-positive_picture = do
-  named "delta_poc_s1_minus1" (ue ! 0 ∶ over 32767)
-  named "used_by_curr_pic_s1_flag" (u 1)
+abbrev pub used_by_curr_pic_flag_of : Side → String
+used_by_curr_pic_flag_of Before = "used_by_curr_pic_s0_flag"
+used_by_curr_pic_flag_of After = "used_by_curr_pic_s1_flag"
+
+unfoldable pub picture : Side → ℕ → Table (ℕ ⊗ ℕ)
+picture side j = do
+  named (delta_poc_minus1 side) (ue ! 0 ∶ over 32767)
+  named (used_by_curr_pic_flag_of side) (u 1)
 
 -- How many candidates a set has: the deltas of its reference set and its picture; none where it is coded directly.
 abbrev pub num_candidates : Bool → List Delta → ℕ
@@ -63,12 +68,12 @@ set_fields idx num earlier = shaped
       delta_idx_minus1 ← named "delta_idx_minus1" (when (is_predicted && nat_eq idx num) (ue ! 0 ∶ over (idx - 1)))
       named "delta_rps_sign" (when is_predicted (u 1))
       named "abs_delta_rps_minus1" (when is_predicted (ue ! 0 ∶ over 32767))
-      columns 0 (num_candidates is_predicted (reference idx earlier delta_idx_minus1)) (λ j. candidate_flags)
+      columns 0 (num_candidates is_predicted (reference idx earlier delta_idx_minus1)) candidate_flags
       num_negative_pics ← named "num_negative_pics" (when (not is_predicted) (ue ! 0 ∶ over 16))
       num_positive_pics ← named "num_positive_pics"
         (when (not is_predicted) (ue ! 0 ∶ (λ n. over 16 (or_zero num_negative_pics + n))))
-      columns 0 (or_zero num_negative_pics) (λ j. negative_picture)
-      columns 0 (or_zero num_positive_pics) (λ j. positive_picture)
+      columns 0 (or_zero num_negative_pics) (picture Before)
+      columns 0 (or_zero num_positive_pics) (picture After)
 
 -- The set: behind its last field it is past its limit where it has over 16 deltas.
 unfoldable pub st_ref_pic_set : ℕ → ℕ → List (List Delta) → Table ShortSetValue

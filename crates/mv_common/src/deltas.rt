@@ -5,7 +5,7 @@ ghost use Rattle.std.specs.List.{All};
 ghost use Rattle.mv_syntax.specs.Table.{Valid};
 ghost use Rattle.mv_syntax.specs.Words.{is_set, ◌otherwise◌, or_zero};
 ghost use Rattle.mv_common.specs.Deltas.{is_on, at_distance, steps, direct, delta_rps, moved, taken, on_side, predicted, reference, deltas, deltas_of_each, IsSided, IsNear};
-ghost use Rattle.mv_common.specs.ShortSet.{st_ref_pic_set, AreShortArgs};
+ghost use Rattle.mv_common.specs.ShortSet.{set_fields, st_ref_pic_set, AreShortArgs};
 ghost use Rattle.mv_common.specs.declared.delta.Side.TheVariants.{Before, After};
 
 use crate::delta::{Delta, Side};
@@ -32,7 +32,7 @@ fn delta_at(side: Side, distance: u32) -> i32
     }
 }
 
-fn or_zero(field: Option<u32>) -> u32
+pub(crate) fn or_zero(field: Option<u32>) -> u32
     ensures { result ≡ or_zero field }
 {
     match field {
@@ -202,7 +202,7 @@ fn add_after(out: &mut Vec<Delta>, set: &ShortSet, before: &[Delta], after: &[De
 
 /// The deltas of a set that is predicted from a reference set with these deltas.
 #[tactic(auto, unfolding(crate::specs::Deltas::predicted))]
-pub fn predicted_deltas(alloc: Global, set: &ShortSet, reference: &[Delta]) -> Result<Vec<Delta>, AllocError>
+fn predicted_deltas(alloc: Global, set: &ShortSet, reference: &[Delta]) -> Result<Vec<Delta>, AllocError>
     requires sides { IsSided reference.now }
     requires near { All (IsNear (2 ^ 22)) reference.now }
     requires few { length reference.now ≤ 16 }
@@ -222,7 +222,7 @@ pub fn predicted_deltas(alloc: Global, set: &ShortSet, reference: &[Delta]) -> R
 
 /// The deltas of the reference set of set `args.idx`.
 #[cycle(deltas)]
-pub fn reference_deltas(alloc: Global, args: &ShortArgs<'_>, delta_idx_minus1: Option<u32>) -> Result<Vec<Delta>, AllocError>
+pub(crate) fn reference_deltas(alloc: Global, args: &ShortArgs<'_>, delta_idx_minus1: Option<u32>) -> Result<Vec<Delta>, AllocError>
     requires args { AreShortArgs args.now.idx args.now.num args.now.earlier.now }
     requires index { or_zero delta_idx_minus1 < args.now.idx }
     ensures { IfOk result (λ v. v.items ≡ reference args.now.idx (deltas_of_each args.now.earlier.now) delta_idx_minus1) }
@@ -233,23 +233,35 @@ pub fn reference_deltas(alloc: Global, args: &ShortArgs<'_>, delta_idx_minus1: O
         num: args.num,
         earlier: &args.earlier[..index as usize],
     };
-    args.earlier[index as usize].deltas(alloc, &before)
+    deltas_of(alloc, &args.earlier[index as usize], &before)
+}
+
+/// The deltas of a set whose fields are valid.
+#[cycle(deltas)]
+#[tactic(auto, unfolding(crate::specs::Deltas::deltas))]
+pub(crate) fn deltas_of(alloc: Global, set: &ShortSet, args: &ShortArgs<'_>) -> Result<Vec<Delta>, AllocError>
+    requires args { AreShortArgs args.now.idx args.now.num args.now.earlier.now }
+    requires valid { Valid (set_fields args.now.idx args.now.num (deltas_of_each args.now.earlier.now)) set.now }
+    ensures { IfOk result (λ v. v.items ≡ deltas args.now.idx (deltas_of_each args.now.earlier.now) set.now) }
+{
+    if coded_set(set.inter_ref_pic_set_prediction_flag) {
+        let reference = reference_deltas(alloc, args, set.delta_idx_minus1)?;
+        predicted_deltas(alloc, set, &reference)
+    } else {
+        direct_deltas(alloc, set)
+    }
 }
 
 impl ShortSet {
     /// The deltas of the set (7.4.8): those below 0 first, then those above 0, at most 16, each from -2^22 to 2^22.
-    #[cycle(deltas)]
-    #[tactic(auto, unfolding(crate::specs::Deltas::deltas))]
+    ///
+    /// `AllocError` where memory runs out.
+    #[tactic(auto, using(crate::proofs::SetLaws::fields_valid))]
     pub fn deltas(&self, alloc: Global, args: &ShortArgs<'_>) -> Result<Vec<Delta>, AllocError>
         requires args { AreShortArgs args.now.idx args.now.num args.now.earlier.now }
         requires valid { Valid (st_ref_pic_set args.now.idx args.now.num (deltas_of_each args.now.earlier.now)) self.now }
         ensures { IfOk result (λ v. v.items ≡ deltas args.now.idx (deltas_of_each args.now.earlier.now) self.now) }
     {
-        if coded_set(self.inter_ref_pic_set_prediction_flag) {
-            let reference = reference_deltas(alloc, args, self.delta_idx_minus1)?;
-            predicted_deltas(alloc, self, &reference)
-        } else {
-            direct_deltas(alloc, self)
-        }
+        deltas_of(alloc, self, args)
     }
 }
