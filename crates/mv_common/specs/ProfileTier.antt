@@ -39,19 +39,25 @@ sub_layers subs profile_flags level_flags = columns 0 subs (sub_layer profile_fl
 
 unfoldable pub profile_tier_level : Bool → ℕ → Table ProfileTierValue
 profile_tier_level present subs = shaped
-  (λ c. record {
-    profile = c.0; level_idc = c.1.0; sub_layer_profile_present_flag = c.1.1.0.0; sub_layer_level_present_flag = c.1.1.0.1;
-    reserved_zero_2bits = c.1.1.1.0; sub_layer_profile = c.1.1.1.1.0; sub_layer_level_idc = c.1.1.1.1.1 })
-  (λ v.
+    (λ c. record {
+      profile = c.0;
+      level_idc = c.1.0;
+      sub_layer_profile_present_flag = c.1.1.0.0;
+      sub_layer_level_present_flag = c.1.1.0.1;
+      reserved_zero_2bits = c.1.1.1.0;
+      sub_layer_profile = c.1.1.1.1.0;
+      sub_layer_level_idc = c.1.1.1.1.1;
+    })
+    (λ v.
     v.profile
     ▸ v.level_idc
     ▸ (v.sub_layer_profile_present_flag, v.sub_layer_level_present_flag)
     ▸ v.reserved_zero_2bits
     ▸ (v.sub_layer_profile, v.sub_layer_level_idc))
-  (λ _. refl)
-  do
-    when present profile
-    named "level_idc" (u 8)
-    flags ← all_sub_layer_flags subs
-    when (over 0 subs) (reserved_bits subs)
-    sub_layers subs flags.0 flags.1
+    (λ _. refl)
+    do
+      when present profile
+      named "level_idc" (u 8)
+      flags ← all_sub_layer_flags subs
+      when (over 0 subs) (reserved_bits subs)
+      sub_layers subs flags.0 flags.1

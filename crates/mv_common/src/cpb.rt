@@ -45,7 +45,12 @@ fn put_cpb(out: &mut BitWriter, v: &Cpb, sub_pic: bool, k: usize) -> Result<(), 
 }
 
 #[tactic(auto, using(mv_syntax::proofs::LoopLaws::item_steps), unfolding(crate::specs::Hrd::sub_layer_hrd))]
-fn sub_layer_hrd_of(alloc: Global, bits: &mut BitReader, sub_pic: bool, cpb_cnt_minus1: u32) -> Result<Vec<Cpb>, FieldFault>
+fn sub_layer_hrd_of(
+    alloc: Global,
+    bits: &mut BitReader,
+    sub_pic: bool,
+    cpb_cnt_minus1: u32,
+) -> Result<Vec<Cpb>, FieldFault>
     ensures { Fills (λ v. v.items) means bits.old bits.new result (read (sub_layer_hrd sub_pic cpb_cnt_minus1) bits.old.left) }
 {
     let turns = u64::from(cpb_cnt_minus1) + 1;
@@ -56,7 +61,13 @@ fn sub_layer_hrd_of(alloc: Global, bits: &mut BitReader, sub_pic: bool, cpb_cnt_
     Ok(cpbs)
 }
 
-pub(crate) fn sub_layer_hrd_if(alloc: Global, bits: &mut BitReader, present: bool, sub_pic: bool, cpb_cnt_minus1: u32) -> Result<Option<Vec<Cpb>>, FieldFault>
+pub(crate) fn sub_layer_hrd_if(
+    alloc: Global,
+    bits: &mut BitReader,
+    present: bool,
+    sub_pic: bool,
+    cpb_cnt_minus1: u32,
+) -> Result<Option<Vec<Cpb>>, FieldFault>
     ensures { Fills (λ o. option_map (λ v. v.items) o) means bits.old bits.new result (read (when present (sub_layer_hrd sub_pic cpb_cnt_minus1)) bits.old.left) }
 {
     if !present {
@@ -66,7 +77,12 @@ pub(crate) fn sub_layer_hrd_if(alloc: Global, bits: &mut BitReader, present: boo
 }
 
 #[tactic(auto, using(mv_syntax::proofs::LoopLaws::put_item_steps), unfolding(crate::specs::Hrd::sub_layer_hrd))]
-fn put_sub_layer_hrd(out: &mut BitWriter, cpbs: &[Cpb], sub_pic: bool, cpb_cnt_minus1: u32) -> Result<(), AllocError>
+fn put_sub_layer_hrd(
+    out: &mut BitWriter,
+    cpbs: &[Cpb],
+    sub_pic: bool,
+    cpb_cnt_minus1: u32,
+) -> Result<(), AllocError>
     requires { Valid (sub_layer_hrd sub_pic cpb_cnt_minus1) cpbs.now }
     ensures { OnOk result (out.new ≡ put (sub_layer_hrd sub_pic cpb_cnt_minus1) cpbs.now out.old) }
 {
@@ -76,7 +92,13 @@ fn put_sub_layer_hrd(out: &mut BitWriter, cpbs: &[Cpb], sub_pic: bool, cpb_cnt_m
     Ok(())
 }
 
-pub(crate) fn put_sub_layer_hrd_if(out: &mut BitWriter, present: bool, cpbs: &Option<Vec<Cpb>>, sub_pic: bool, cpb_cnt_minus1: u32) -> Result<(), AllocError>
+pub(crate) fn put_sub_layer_hrd_if(
+    out: &mut BitWriter,
+    present: bool,
+    cpbs: &Option<Vec<Cpb>>,
+    sub_pic: bool,
+    cpb_cnt_minus1: u32,
+) -> Result<(), AllocError>
     requires { Valid (when present (sub_layer_hrd sub_pic cpb_cnt_minus1)) (option_map (λ v. v.items) cpbs.now) }
     ensures { OnOk result (out.new ≡ put (when present (sub_layer_hrd sub_pic cpb_cnt_minus1)) (option_map (λ v. v.items) cpbs.now) out.old) }
 {

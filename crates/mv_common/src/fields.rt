@@ -148,7 +148,12 @@ pub fn put_ue(out: &mut BitWriter, field: u32) -> Result<(), AllocError>
 }
 
 /// Writes a field u(n) of at most 8 bits, where it is present.
-pub fn put_u8_if(out: &mut BitWriter, present: bool, n: u8, field: Option<u8>) -> Result<(), AllocError>
+pub fn put_u8_if(
+    out: &mut BitWriter,
+    present: bool,
+    n: u8,
+    field: Option<u8>,
+) -> Result<(), AllocError>
     requires width { n ≤ 8 }
     requires fits { Valid (when present (u n)) field }
     ensures { OnOk result (out.new ≡ put (when present (u n)) field out.old) }
@@ -160,7 +165,12 @@ pub fn put_u8_if(out: &mut BitWriter, present: bool, n: u8, field: Option<u8>) -
 }
 
 /// Writes a field u(n) of at most 16 bits, where it is present.
-pub fn put_u16_if(out: &mut BitWriter, present: bool, n: u8, field: Option<u16>) -> Result<(), AllocError>
+pub fn put_u16_if(
+    out: &mut BitWriter,
+    present: bool,
+    n: u8,
+    field: Option<u16>,
+) -> Result<(), AllocError>
     requires width { n ≤ 16 }
     requires fits { Valid (when present (u n)) field }
     ensures { OnOk result (out.new ≡ put (when present (u n)) field out.old) }
@@ -172,7 +182,12 @@ pub fn put_u16_if(out: &mut BitWriter, present: bool, n: u8, field: Option<u16>)
 }
 
 /// Writes a field u(n) of at most 32 bits, where it is present.
-pub fn put_u32_if(out: &mut BitWriter, present: bool, n: u8, field: Option<u32>) -> Result<(), AllocError>
+pub fn put_u32_if(
+    out: &mut BitWriter,
+    present: bool,
+    n: u8,
+    field: Option<u32>,
+) -> Result<(), AllocError>
     requires width { n ≤ 32 }
     requires fits { Valid (when present (u n)) field }
     ensures { OnOk result (out.new ≡ put (when present (u n)) field out.old) }
@@ -192,4 +207,13 @@ pub fn put_ue_if(out: &mut BitWriter, present: bool, field: Option<u32>) -> Resu
         Some(field) => out.ue(field),
         None => Ok(()),
     }
+}
+
+/// Writes a field u(n) of at most 16 bits.
+pub fn put_u16(out: &mut BitWriter, n: u8, field: u16) -> Result<(), AllocError>
+    requires width { n ≤ 16 }
+    requires fits { Valid (u n) field }
+    ensures { OnOk result (out.new ≡ put (u n) field out.old) }
+{
+    out.u(n, u64::from(field))
 }

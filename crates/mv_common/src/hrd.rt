@@ -39,7 +39,13 @@ impl Model for Hrd {
 }
 
 #[tactic(auto, unfolding(crate::specs::Hrd::hrd_parameters))]
-pub(crate) fn hrd_of(alloc: Global, bits: &mut BitReader, common: bool, subs: u8, before: HrdFlags) -> Result<Hrd, FieldFault>
+pub(crate) fn hrd_of(
+    alloc: Global,
+    bits: &mut BitReader,
+    common: bool,
+    subs: u8,
+    before: HrdFlags,
+) -> Result<Hrd, FieldFault>
     requires { subs ≤ 6 }
     ensures { Fills (λ v. v) means bits.old bits.new result (read (hrd_parameters common subs before) bits.old.left) }
 {
@@ -50,7 +56,13 @@ pub(crate) fn hrd_of(alloc: Global, bits: &mut BitReader, common: bool, subs: u8
 }
 
 #[tactic(auto, unfolding(crate::specs::Hrd::hrd_parameters))]
-pub(crate) fn put_hrd(out: &mut BitWriter, v: &Hrd, common: bool, subs: u8, before: HrdFlags) -> Result<(), AllocError>
+pub(crate) fn put_hrd(
+    out: &mut BitWriter,
+    v: &Hrd,
+    common: bool,
+    subs: u8,
+    before: HrdFlags,
+) -> Result<(), AllocError>
     requires { Valid (hrd_parameters common subs before) v.now }
     ensures { OnOk result (out.new ≡ put (hrd_parameters common subs before) v.now out.old) }
 {

@@ -86,7 +86,12 @@ fn put_hrd_common(out: &mut BitWriter, v: &HrdCommon) -> Result<(), AllocError>
     put_u8(out, 1, v.vcl_hrd_parameters_present_flag)?;
     put_u8_if(out, any, 1, v.sub_pic_hrd_params_present_flag)?;
     put_u8_if(out, sub_pic, 8, v.tick_divisor_minus2)?;
-    put_u8_if(out, sub_pic, 5, v.du_cpb_removal_delay_increment_length_minus1)?;
+    put_u8_if(
+        out,
+        sub_pic,
+        5,
+        v.du_cpb_removal_delay_increment_length_minus1,
+    )?;
     put_u8_if(out, sub_pic, 1, v.sub_pic_cpb_params_in_pic_timing_sei_flag)?;
     put_u8_if(out, sub_pic, 5, v.dpb_output_delay_du_length_minus1)?;
     put_u8_if(out, any, 4, v.bit_rate_scale)?;
@@ -97,7 +102,10 @@ fn put_hrd_common(out: &mut BitWriter, v: &HrdCommon) -> Result<(), AllocError>
     put_u8_if(out, any, 5, v.dpb_output_delay_length_minus1)
 }
 
-pub(crate) fn hrd_common_if(bits: &mut BitReader, present: bool) -> Result<Option<HrdCommon>, FieldFault>
+pub(crate) fn hrd_common_if(
+    bits: &mut BitReader,
+    present: bool,
+) -> Result<Option<HrdCommon>, FieldFault>
     ensures { Fills (λ v. v) means bits.old bits.new result (read (when present hrd_common) bits.old.left) }
 {
     if !present {
@@ -106,7 +114,11 @@ pub(crate) fn hrd_common_if(bits: &mut BitReader, present: bool) -> Result<Optio
     Ok(Some(hrd_common_of(bits)?))
 }
 
-pub(crate) fn put_hrd_common_if(out: &mut BitWriter, present: bool, v: &Option<HrdCommon>) -> Result<(), AllocError>
+pub(crate) fn put_hrd_common_if(
+    out: &mut BitWriter,
+    present: bool,
+    v: &Option<HrdCommon>,
+) -> Result<(), AllocError>
     requires { Valid (when present hrd_common) v.now }
     ensures { OnOk result (out.new ≡ put (when present hrd_common) v.now out.old) }
 {

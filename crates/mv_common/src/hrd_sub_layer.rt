@@ -33,13 +33,14 @@ impl Model for HrdSubLayer {
     ghost Value = { HrdSubLayerValue };
 
     ghost view = { λ s. record {
-        fixed_pic_rate_general_flag = s.fixed_pic_rate_general_flag;
-        fixed_pic_rate_within_cvs_flag = s.fixed_pic_rate_within_cvs_flag;
-        elemental_duration_in_tc_minus1 = s.elemental_duration_in_tc_minus1;
-        low_delay_hrd_flag = s.low_delay_hrd_flag;
-        cpb_cnt_minus1 = s.cpb_cnt_minus1;
-        nal_sub_layer_hrd = option_map (λ v. v.items) s.nal_sub_layer_hrd;
-        vcl_sub_layer_hrd = option_map (λ v. v.items) s.vcl_sub_layer_hrd } };
+      fixed_pic_rate_general_flag = s.fixed_pic_rate_general_flag;
+      fixed_pic_rate_within_cvs_flag = s.fixed_pic_rate_within_cvs_flag;
+      elemental_duration_in_tc_minus1 = s.elemental_duration_in_tc_minus1;
+      low_delay_hrd_flag = s.low_delay_hrd_flag;
+      cpb_cnt_minus1 = s.cpb_cnt_minus1;
+      nal_sub_layer_hrd = option_map (λ v. v.items) s.nal_sub_layer_hrd;
+      vcl_sub_layer_hrd = option_map (λ v. v.items) s.vcl_sub_layer_hrd;
+    } };
 }
 
 // The value of a field, 0 where it is left out.
@@ -50,7 +51,11 @@ fn or_zero(field: Option<u32>) -> u32
 }
 
 #[tactic(auto, unfolding(crate::specs::Hrd::hrd_sub_layer))]
-fn hrd_sub_layer_of(alloc: Global, bits: &mut BitReader, flags: HrdFlags) -> Result<HrdSubLayer, FieldFault>
+fn hrd_sub_layer_of(
+    alloc: Global,
+    bits: &mut BitReader,
+    flags: HrdFlags,
+) -> Result<HrdSubLayer, FieldFault>
     ensures { Fills (λ v. v) means bits.old bits.new result (read (hrd_sub_layer flags) bits.old.left) }
 {
     let fixed_pic_rate_general_flag = u8_of(bits, 1)?;
@@ -74,14 +79,23 @@ fn hrd_sub_layer_of(alloc: Global, bits: &mut BitReader, flags: HrdFlags) -> Res
 }
 
 #[tactic(auto, unfolding(crate::specs::Hrd::hrd_sub_layer))]
-fn put_hrd_sub_layer(out: &mut BitWriter, v: &HrdSubLayer, flags: HrdFlags) -> Result<(), AllocError>
+fn put_hrd_sub_layer(
+    out: &mut BitWriter,
+    v: &HrdSubLayer,
+    flags: HrdFlags,
+) -> Result<(), AllocError>
     requires { Valid (hrd_sub_layer flags) v.now }
     ensures { OnOk result (out.new ≡ put (hrd_sub_layer flags) v.now out.old) }
 {
     let within_cvs = v.fixed_pic_rate_within_cvs_flag.unwrap_or(1) == 1;
     let count = or_zero(v.cpb_cnt_minus1);
     put_u8(out, 1, v.fixed_pic_rate_general_flag)?;
-    put_u8_if(out, v.fixed_pic_rate_general_flag != 1, 1, v.fixed_pic_rate_within_cvs_flag)?;
+    put_u8_if(
+        out,
+        v.fixed_pic_rate_general_flag != 1,
+        1,
+        v.fixed_pic_rate_within_cvs_flag,
+    )?;
     put_ue_if(out, within_cvs, v.elemental_duration_in_tc_minus1)?;
     put_u8_if(out, !within_cvs, 1, v.low_delay_hrd_flag)?;
     put_ue_within_if(out, !coded_set(v.low_delay_hrd_flag), v.cpb_cnt_minus1, 31)?;
@@ -90,7 +104,12 @@ fn put_hrd_sub_layer(out: &mut BitWriter, v: &HrdSubLayer, flags: HrdFlags) -> R
 }
 
 #[tactic(auto, using(mv_syntax::proofs::LoopLaws::item_steps), unfolding(crate::specs::Hrd::hrd_sub_layers))]
-pub(crate) fn hrd_sub_layers_of(alloc: Global, bits: &mut BitReader, subs: u8, flags: HrdFlags) -> Result<Vec<HrdSubLayer>, FieldFault>
+pub(crate) fn hrd_sub_layers_of(
+    alloc: Global,
+    bits: &mut BitReader,
+    subs: u8,
+    flags: HrdFlags,
+) -> Result<Vec<HrdSubLayer>, FieldFault>
     requires { subs ≤ 6 }
     ensures { Fills (λ v. v.items) means bits.old bits.new result (read (hrd_sub_layers subs flags) bits.old.left) }
 {
@@ -103,7 +122,12 @@ pub(crate) fn hrd_sub_layers_of(alloc: Global, bits: &mut BitReader, subs: u8, f
 }
 
 #[tactic(auto, using(mv_syntax::proofs::LoopLaws::put_item_steps), unfolding(crate::specs::Hrd::hrd_sub_layers))]
-pub(crate) fn put_hrd_sub_layers(out: &mut BitWriter, sub_layers: &[HrdSubLayer], subs: u8, flags: HrdFlags) -> Result<(), AllocError>
+pub(crate) fn put_hrd_sub_layers(
+    out: &mut BitWriter,
+    sub_layers: &[HrdSubLayer],
+    subs: u8,
+    flags: HrdFlags,
+) -> Result<(), AllocError>
     requires { Valid (hrd_sub_layers subs flags) sub_layers.now }
     ensures { OnOk result (out.new ≡ put (hrd_sub_layers subs flags) sub_layers.now out.old) }
 {

@@ -26,7 +26,11 @@ pub fn ue_within(bits: &mut BitReader, limit: u32) -> Result<u32, FieldFault>
 /// The next field ue(v) of at most `limit`, where it is present.
 ///
 /// `NoBits` where it is and no code stands there, `Limit` where its value is over the limit.
-pub fn ue_within_if(bits: &mut BitReader, present: bool, limit: u32) -> Result<Option<u32>, FieldFault>
+pub fn ue_within_if(
+    bits: &mut BitReader,
+    present: bool,
+    limit: u32,
+) -> Result<Option<u32>, FieldFault>
     ensures { Fills (λ v. v) means bits.old bits.new result (read (when present (ue ! 0 ∶ over limit)) bits.old.left) }
 {
     if !present {
@@ -44,7 +48,12 @@ pub fn put_ue_within(out: &mut BitWriter, field: u32, limit: u32) -> Result<(), 
 }
 
 /// Writes a field ue(v) of at most `limit`, where it is present.
-pub fn put_ue_within_if(out: &mut BitWriter, present: bool, field: Option<u32>, limit: u32) -> Result<(), AllocError>
+pub fn put_ue_within_if(
+    out: &mut BitWriter,
+    present: bool,
+    field: Option<u32>,
+    limit: u32,
+) -> Result<(), AllocError>
     requires { Valid (when present (ue ! 0 ∶ over limit)) field }
     ensures { OnOk result (out.new ≡ put (when present (ue ! 0 ∶ over limit)) field out.old) }
 {

@@ -40,13 +40,14 @@ impl Model for ProfileTier {
     ghost Value = { ProfileTierValue };
 
     ghost view = { λ p. record {
-        profile = p.profile;
-        level_idc = p.level_idc;
-        sub_layer_profile_present_flag = p.sub_layer_profile_present_flag.items;
-        sub_layer_level_present_flag = p.sub_layer_level_present_flag.items;
-        reserved_zero_2bits = option_map (λ v. v.items) p.reserved_zero_2bits;
-        sub_layer_profile = p.sub_layer_profile.items;
-        sub_layer_level_idc = p.sub_layer_level_idc.items } };
+      profile = p.profile;
+      level_idc = p.level_idc;
+      sub_layer_profile_present_flag = p.sub_layer_profile_present_flag.items;
+      sub_layer_level_present_flag = p.sub_layer_level_present_flag.items;
+      reserved_zero_2bits = option_map (λ v. v.items) p.reserved_zero_2bits;
+      sub_layer_profile = p.sub_layer_profile.items;
+      sub_layer_level_idc = p.sub_layer_level_idc.items;
+    } };
 }
 
 fn profile_if(bits: &mut BitReader, present: bool) -> Result<Option<Profile>, FieldFault>
@@ -66,7 +67,11 @@ fn sub_layer_flags_of(bits: &mut BitReader) -> Result<(u8, u8), FieldFault>
 }
 
 #[tactic(auto, using(mv_syntax::proofs::LoopLaws::column_steps), unfolding(crate::specs::ProfileTier::all_sub_layer_flags))]
-fn all_sub_layer_flags_of(alloc: Global, bits: &mut BitReader, subs: u8) -> Result<(Vec<u8>, Vec<u8>), FieldFault>
+fn all_sub_layer_flags_of(
+    alloc: Global,
+    bits: &mut BitReader,
+    subs: u8,
+) -> Result<(Vec<u8>, Vec<u8>), FieldFault>
     ensures { Fills (λ v. (v.0.items, v.1.items)) means bits.old bits.new result (read (all_sub_layer_flags subs) bits.old.left) }
 {
     let mut profile_flags = Vec::new(alloc);
@@ -91,7 +96,11 @@ fn reserved_bits_of(alloc: Global, bits: &mut BitReader, subs: u8) -> Result<Vec
     Ok(reserved)
 }
 
-fn reserved_bits_if(alloc: Global, bits: &mut BitReader, subs: u8) -> Result<Option<Vec<u8>>, FieldFault>
+fn reserved_bits_if(
+    alloc: Global,
+    bits: &mut BitReader,
+    subs: u8,
+) -> Result<Option<Vec<u8>>, FieldFault>
     requires { subs ≤ 8 }
     ensures { Fills (λ v. option_map (λ w. w.items) v) means bits.old bits.new result (read (when (over 0 subs) (reserved_bits subs)) bits.old.left) }
 {
@@ -102,7 +111,12 @@ fn reserved_bits_if(alloc: Global, bits: &mut BitReader, subs: u8) -> Result<Opt
 }
 
 #[tactic(auto, unfolding(crate::specs::ProfileTier::sub_layer))]
-fn sub_layer_of(bits: &mut BitReader, profile_flags: &[u8], level_flags: &[u8], i: usize) -> Result<(Option<Profile>, Option<u8>), FieldFault>
+fn sub_layer_of(
+    bits: &mut BitReader,
+    profile_flags: &[u8],
+    level_flags: &[u8],
+    i: usize,
+) -> Result<(Option<Profile>, Option<u8>), FieldFault>
     requires profiles { i < length profile_flags.now }
     requires levels { i < length level_flags.now }
     ensures { Fills (λ v. v) means bits.old bits.new result (read (sub_layer profile_flags.now level_flags.now i) bits.old.left) }
@@ -121,7 +135,13 @@ fn flag_at(flags: &[u8], i: usize) -> u8
 }
 
 #[tactic(auto, using(mv_syntax::proofs::LoopLaws::column_steps), unfolding(crate::specs::ProfileTier::sub_layers))]
-fn sub_layers_of(alloc: Global, bits: &mut BitReader, subs: u8, profile_flags: &[u8], level_flags: &[u8]) -> Result<(Vec<Option<Profile>>, Vec<Option<u8>>), FieldFault>
+fn sub_layers_of(
+    alloc: Global,
+    bits: &mut BitReader,
+    subs: u8,
+    profile_flags: &[u8],
+    level_flags: &[u8],
+) -> Result<(Vec<Option<Profile>>, Vec<Option<u8>>), FieldFault>
     requires profiles { length profile_flags.now ≡ subs }
     requires levels { length level_flags.now ≡ subs }
     ensures { Fills (λ v. (v.0.items, v.1.items)) means bits.old bits.new result (read (sub_layers subs profile_flags.now level_flags.now) bits.old.left) }
@@ -147,7 +167,11 @@ fn put_profile_if(out: &mut BitWriter, present: bool, v: &Option<Profile>) -> Re
 }
 
 #[tactic(auto, unfolding(crate::specs::ProfileTier::sub_layer_flags))]
-fn put_sub_layer_flags(out: &mut BitWriter, profile_flag: u8, level_flag: u8) -> Result<(), AllocError>
+fn put_sub_layer_flags(
+    out: &mut BitWriter,
+    profile_flag: u8,
+    level_flag: u8,
+) -> Result<(), AllocError>
     requires { Valid sub_layer_flags (profile_flag, level_flag) }
     ensures { OnOk result (out.new ≡ put sub_layer_flags (profile_flag, level_flag) out.old) }
 {
@@ -156,7 +180,12 @@ fn put_sub_layer_flags(out: &mut BitWriter, profile_flag: u8, level_flag: u8) ->
 }
 
 #[tactic(auto, using(mv_syntax::proofs::LoopLaws::put_column_steps), unfolding(crate::specs::ProfileTier::all_sub_layer_flags))]
-fn put_all_sub_layer_flags(out: &mut BitWriter, profile_flags: &[u8], level_flags: &[u8], subs: u8) -> Result<(), AllocError>
+fn put_all_sub_layer_flags(
+    out: &mut BitWriter,
+    profile_flags: &[u8],
+    level_flags: &[u8],
+    subs: u8,
+) -> Result<(), AllocError>
     requires { Valid (all_sub_layer_flags subs) (profile_flags.now, level_flags.now) }
     ensures { OnOk result (out.new ≡ put (all_sub_layer_flags subs) (profile_flags.now, level_flags.now) out.old) }
 {
@@ -177,7 +206,11 @@ fn put_reserved_bits(out: &mut BitWriter, reserved: &[u8], subs: u8) -> Result<(
     Ok(())
 }
 
-fn put_reserved_bits_if(out: &mut BitWriter, reserved: &Option<Vec<u8>>, subs: u8) -> Result<(), AllocError>
+fn put_reserved_bits_if(
+    out: &mut BitWriter,
+    reserved: &Option<Vec<u8>>,
+    subs: u8,
+) -> Result<(), AllocError>
     requires { Valid (when (over 0 subs) (reserved_bits subs)) (option_map (λ v. v.items) reserved.now) }
     ensures { OnOk result (out.new ≡ put (when (over 0 subs) (reserved_bits subs)) (option_map (λ v. v.items) reserved.now) out.old) }
 {
@@ -188,7 +221,14 @@ fn put_reserved_bits_if(out: &mut BitWriter, reserved: &Option<Vec<u8>>, subs: u
 }
 
 #[tactic(auto, unfolding(crate::specs::ProfileTier::sub_layer))]
-fn put_sub_layer(out: &mut BitWriter, v: &Option<Profile>, level_idc: Option<u8>, profile_flags: &[u8], level_flags: &[u8], i: usize) -> Result<(), AllocError>
+fn put_sub_layer(
+    out: &mut BitWriter,
+    v: &Option<Profile>,
+    level_idc: Option<u8>,
+    profile_flags: &[u8],
+    level_flags: &[u8],
+    i: usize,
+) -> Result<(), AllocError>
     requires profiles { i < length profile_flags.now }
     requires levels { i < length level_flags.now }
     requires valid { Valid (sub_layer profile_flags.now level_flags.now i) (v.now, level_idc) }
@@ -199,7 +239,14 @@ fn put_sub_layer(out: &mut BitWriter, v: &Option<Profile>, level_idc: Option<u8>
 }
 
 #[tactic(auto, using(mv_syntax::proofs::LoopLaws::put_column_steps), unfolding(crate::specs::ProfileTier::sub_layers))]
-fn put_sub_layers(out: &mut BitWriter, profiles: &[Option<Profile>], levels: &[Option<u8>], subs: u8, profile_flags: &[u8], level_flags: &[u8]) -> Result<(), AllocError>
+fn put_sub_layers(
+    out: &mut BitWriter,
+    profiles: &[Option<Profile>],
+    levels: &[Option<u8>],
+    subs: u8,
+    profile_flags: &[u8],
+    level_flags: &[u8],
+) -> Result<(), AllocError>
     requires profiles { length profile_flags.now ≡ subs }
     requires levels { length level_flags.now ≡ subs }
     requires valid { Valid (sub_layers subs profile_flags.now level_flags.now) (profiles.now, levels.now) }
@@ -212,7 +259,12 @@ fn put_sub_layers(out: &mut BitWriter, profiles: &[Option<Profile>], levels: &[O
 }
 
 #[tactic(auto, unfolding(crate::specs::ProfileTier::profile_tier_level))]
-fn profile_tier_of(alloc: Global, bits: &mut BitReader, present: bool, subs: u8) -> Result<ProfileTier, FieldFault>
+fn profile_tier_of(
+    alloc: Global,
+    bits: &mut BitReader,
+    present: bool,
+    subs: u8,
+) -> Result<ProfileTier, FieldFault>
     requires { subs ≤ 6 }
     ensures { Fills (λ v. v) means bits.old bits.new result (read (profile_tier_level present subs) bits.old.left) }
 {
@@ -220,7 +272,13 @@ fn profile_tier_of(alloc: Global, bits: &mut BitReader, present: bool, subs: u8)
     let level_idc = u8_of(bits, 8)?;
     let (profile_flags, level_flags) = all_sub_layer_flags_of(alloc, bits, subs)?;
     let reserved_zero_2bits = reserved_bits_if(alloc, bits, subs)?;
-    let (sub_layer_profile, sub_layer_level_idc) = sub_layers_of(alloc, bits, subs, &profile_flags, &level_flags)?;
+    let (sub_layer_profile, sub_layer_level_idc) = sub_layers_of(
+        alloc,
+        bits,
+        subs,
+        &profile_flags,
+        &level_flags,
+    )?;
     Ok(ProfileTier {
         profile,
         level_idc,
@@ -233,7 +291,12 @@ fn profile_tier_of(alloc: Global, bits: &mut BitReader, present: bool, subs: u8)
 }
 
 #[tactic(auto, unfolding(crate::specs::ProfileTier::profile_tier_level))]
-fn put_profile_tier(out: &mut BitWriter, v: &ProfileTier, present: bool, subs: u8) -> Result<(), AllocError>
+fn put_profile_tier(
+    out: &mut BitWriter,
+    v: &ProfileTier,
+    present: bool,
+    subs: u8,
+) -> Result<(), AllocError>
     requires { Valid (profile_tier_level present subs) v.now }
     ensures { OnOk result (out.new ≡ put (profile_tier_level present subs) v.now out.old) }
 {
@@ -243,7 +306,14 @@ fn put_profile_tier(out: &mut BitWriter, v: &ProfileTier, present: bool, subs: u
     put_u8(out, 8, v.level_idc)?;
     put_all_sub_layer_flags(out, profile_flags, level_flags, subs)?;
     put_reserved_bits_if(out, &v.reserved_zero_2bits, subs)?;
-    put_sub_layers(out, &v.sub_layer_profile, &v.sub_layer_level_idc, subs, profile_flags, level_flags)
+    put_sub_layers(
+        out,
+        &v.sub_layer_profile,
+        &v.sub_layer_level_idc,
+        subs,
+        profile_flags,
+        level_flags,
+    )
 }
 
 impl ProfileTier {
@@ -251,7 +321,11 @@ impl ProfileTier {
     ///
     /// `NoBits` where the bits end before or in a field; `Memory` where memory runs out. No field has a limit. After a
     /// fault the reader stands where it stood.
-    pub fn read(alloc: Global, bits: &mut BitReader, args: &ProfileArgs) -> Result<ProfileTier, FieldFault>
+    pub fn read(
+        alloc: Global,
+        bits: &mut BitReader,
+        args: &ProfileArgs,
+    ) -> Result<ProfileTier, FieldFault>
         requires { args.now.subs ≤ 6 }
         ensures { Answers (λ v. v) means (profile_tier_level args.now.present args.now.subs) bits.old bits.new result }
     {

@@ -6,14 +6,16 @@ ghost use Rattle.mv_common.specs.Hrd.{hrd_parameters};
 ghost use Rattle.mv_common.specs.Vui.{no_flags, vui_timing, vui_parameters};
 
 use crate::fault::FieldFault;
-use crate::fields::{coded_set, put_u8, put_u8_if, put_u32_if, put_ue_if, u8_if, u8_of, u32_if, ue_if};
+use crate::fields::{
+    coded_set, put_u8, put_u8_if, put_u32_if, put_ue_if, u8_if, u8_of, u32_if, ue_if,
+};
 use crate::hrd::{Hrd, hrd_of, put_hrd};
 use crate::hrd_common::HrdFlags;
 use crate::vui_parts::{
-    AspectRatio, BitstreamRestriction, ChromaLocation, DisplayWindow, Overscan, VideoSignalType, aspect_ratio_of,
-    bitstream_restriction_of, chroma_location_of, display_window_of, overscan_of, put_aspect_ratio,
-    put_bitstream_restriction, put_chroma_location, put_display_window, put_overscan, put_video_signal_type,
-    video_signal_type_of,
+    AspectRatio, BitstreamRestriction, ChromaLocation, DisplayWindow, Overscan, VideoSignalType,
+    aspect_ratio_of, bitstream_restriction_of, chroma_location_of, display_window_of, overscan_of,
+    put_aspect_ratio, put_bitstream_restriction, put_chroma_location, put_display_window,
+    put_overscan, put_video_signal_type, video_signal_type_of,
 };
 use mv_bits::{BitReader, BitWriter};
 use std::alloc::{AllocError, Global};
@@ -43,13 +45,14 @@ impl Model for VuiTiming {
     ghost Value = { VuiTimingValue };
 
     ghost view = { λ t. record {
-        vui_timing_info_present_flag = t.vui_timing_info_present_flag;
-        vui_num_units_in_tick = t.vui_num_units_in_tick;
-        vui_time_scale = t.vui_time_scale;
-        vui_poc_proportional_to_timing_flag = t.vui_poc_proportional_to_timing_flag;
-        vui_num_ticks_poc_diff_one_minus1 = t.vui_num_ticks_poc_diff_one_minus1;
-        vui_hrd_parameters_present_flag = t.vui_hrd_parameters_present_flag;
-        hrd_parameters = t.hrd_parameters } };
+      vui_timing_info_present_flag = t.vui_timing_info_present_flag;
+      vui_num_units_in_tick = t.vui_num_units_in_tick;
+      vui_time_scale = t.vui_time_scale;
+      vui_poc_proportional_to_timing_flag = t.vui_poc_proportional_to_timing_flag;
+      vui_num_ticks_poc_diff_one_minus1 = t.vui_num_ticks_poc_diff_one_minus1;
+      vui_hrd_parameters_present_flag = t.vui_hrd_parameters_present_flag;
+      hrd_parameters = t.hrd_parameters;
+    } };
 }
 
 /// vui_parameters (E.2.1), in parts: each part is a run of its fields.
@@ -73,16 +76,17 @@ impl Model for Vui {
     ghost Value = { VuiValue };
 
     ghost view = { λ v. record {
-        aspect_ratio = v.aspect_ratio;
-        overscan = v.overscan;
-        video_signal_type = v.video_signal_type;
-        chroma_location = v.chroma_location;
-        neutral_chroma_indication_flag = v.neutral_chroma_indication_flag;
-        field_seq_flag = v.field_seq_flag;
-        frame_field_info_present_flag = v.frame_field_info_present_flag;
-        display_window = v.display_window;
-        timing = v.timing;
-        bitstream_restriction = v.bitstream_restriction } };
+      aspect_ratio = v.aspect_ratio;
+      overscan = v.overscan;
+      video_signal_type = v.video_signal_type;
+      chroma_location = v.chroma_location;
+      neutral_chroma_indication_flag = v.neutral_chroma_indication_flag;
+      field_seq_flag = v.field_seq_flag;
+      frame_field_info_present_flag = v.frame_field_info_present_flag;
+      display_window = v.display_window;
+      timing = v.timing;
+      bitstream_restriction = v.bitstream_restriction;
+    } };
 }
 
 const NO_FLAGS: HrdFlags = HrdFlags {
@@ -91,7 +95,12 @@ const NO_FLAGS: HrdFlags = HrdFlags {
     sub_pic: false,
 };
 
-fn hrd_if(alloc: Global, bits: &mut BitReader, present: bool, subs: u8) -> Result<Option<Hrd>, FieldFault>
+fn hrd_if(
+    alloc: Global,
+    bits: &mut BitReader,
+    present: bool,
+    subs: u8,
+) -> Result<Option<Hrd>, FieldFault>
     requires { subs ≤ 6 }
     ensures { Fills (λ v. v) means bits.old bits.new result (read (when present (hrd_parameters true subs no_flags)) bits.old.left) }
 {
@@ -101,7 +110,12 @@ fn hrd_if(alloc: Global, bits: &mut BitReader, present: bool, subs: u8) -> Resul
     Ok(Some(hrd_of(alloc, bits, true, subs, NO_FLAGS)?))
 }
 
-fn put_hrd_if(out: &mut BitWriter, present: bool, v: &Option<Hrd>, subs: u8) -> Result<(), AllocError>
+fn put_hrd_if(
+    out: &mut BitWriter,
+    present: bool,
+    v: &Option<Hrd>,
+    subs: u8,
+) -> Result<(), AllocError>
     requires { Valid (when present (hrd_parameters true subs no_flags)) v.now }
     ensures { OnOk result (out.new ≡ put (when present (hrd_parameters true subs no_flags)) v.now out.old) }
 {
@@ -121,9 +135,17 @@ fn vui_timing_of(alloc: Global, bits: &mut BitReader, subs: u8) -> Result<VuiTim
     let vui_num_units_in_tick = u32_if(bits, present, 32)?;
     let vui_time_scale = u32_if(bits, present, 32)?;
     let vui_poc_proportional_to_timing_flag = u8_if(bits, present, 1)?;
-    let vui_num_ticks_poc_diff_one_minus1 = ue_if(bits, coded_set(vui_poc_proportional_to_timing_flag))?;
+    let vui_num_ticks_poc_diff_one_minus1 = ue_if(
+        bits,
+        coded_set(vui_poc_proportional_to_timing_flag),
+    )?;
     let vui_hrd_parameters_present_flag = u8_if(bits, present, 1)?;
-    let hrd_parameters = hrd_if(alloc, bits, coded_set(vui_hrd_parameters_present_flag), subs)?;
+    let hrd_parameters = hrd_if(
+        alloc,
+        bits,
+        coded_set(vui_hrd_parameters_present_flag),
+        subs,
+    )?;
     Ok(VuiTiming {
         vui_timing_info_present_flag,
         vui_num_units_in_tick,
@@ -145,9 +167,18 @@ fn put_vui_timing(out: &mut BitWriter, v: &VuiTiming, subs: u8) -> Result<(), Al
     put_u32_if(out, present, 32, v.vui_num_units_in_tick)?;
     put_u32_if(out, present, 32, v.vui_time_scale)?;
     put_u8_if(out, present, 1, v.vui_poc_proportional_to_timing_flag)?;
-    put_ue_if(out, coded_set(v.vui_poc_proportional_to_timing_flag), v.vui_num_ticks_poc_diff_one_minus1)?;
+    put_ue_if(
+        out,
+        coded_set(v.vui_poc_proportional_to_timing_flag),
+        v.vui_num_ticks_poc_diff_one_minus1,
+    )?;
     put_u8_if(out, present, 1, v.vui_hrd_parameters_present_flag)?;
-    put_hrd_if(out, coded_set(v.vui_hrd_parameters_present_flag), &v.hrd_parameters, subs)
+    put_hrd_if(
+        out,
+        coded_set(v.vui_hrd_parameters_present_flag),
+        &v.hrd_parameters,
+        subs,
+    )
 }
 
 #[tactic(auto, unfolding(crate::specs::Vui::vui_parameters))]

@@ -5,7 +5,9 @@ ghost use Rattle.mv_common.specs.Faults.{means};
 ghost use Rattle.mv_common.specs.Vui.{aspect_ratio, overscan, video_signal_type, chroma_location, display_window, bitstream_restriction};
 
 use crate::fault::FieldFault;
-use crate::fields::{coded_set, put_u8, put_u8_if, put_u16_if, put_ue_if, u8_if, u8_of, u16_if, ue_if};
+use crate::fields::{
+    coded_set, put_u8, put_u8_if, put_u16_if, put_ue_if, u8_if, u8_of, u16_if, ue_if,
+};
 use mv_bits::{BitReader, BitWriter};
 use std::alloc::AllocError;
 
@@ -91,7 +93,12 @@ pub(crate) fn put_aspect_ratio(out: &mut BitWriter, v: &AspectRatio) -> Result<(
 {
     let extended = v.aspect_ratio_idc.unwrap_or(0) == 255;
     put_u8(out, 1, v.aspect_ratio_info_present_flag)?;
-    put_u8_if(out, v.aspect_ratio_info_present_flag == 1, 8, v.aspect_ratio_idc)?;
+    put_u8_if(
+        out,
+        v.aspect_ratio_info_present_flag == 1,
+        8,
+        v.aspect_ratio_idc,
+    )?;
     put_u16_if(out, extended, 16, v.sar_width)?;
     put_u16_if(out, extended, 16, v.sar_height)
 }
@@ -114,7 +121,12 @@ pub(crate) fn put_overscan(out: &mut BitWriter, v: &Overscan) -> Result<(), Allo
     ensures { OnOk result (out.new ≡ put overscan v.now out.old) }
 {
     put_u8(out, 1, v.overscan_info_present_flag)?;
-    put_u8_if(out, v.overscan_info_present_flag == 1, 1, v.overscan_appropriate_flag)
+    put_u8_if(
+        out,
+        v.overscan_info_present_flag == 1,
+        1,
+        v.overscan_appropriate_flag,
+    )
 }
 
 #[tactic(auto, unfolding(crate::specs::Vui::video_signal_type))]
@@ -139,7 +151,10 @@ pub(crate) fn video_signal_type_of(bits: &mut BitReader) -> Result<VideoSignalTy
 }
 
 #[tactic(auto, unfolding(crate::specs::Vui::video_signal_type))]
-pub(crate) fn put_video_signal_type(out: &mut BitWriter, v: &VideoSignalType) -> Result<(), AllocError>
+pub(crate) fn put_video_signal_type(
+    out: &mut BitWriter,
+    v: &VideoSignalType,
+) -> Result<(), AllocError>
     requires { Valid video_signal_type v.now }
     ensures { OnOk result (out.new ≡ put video_signal_type v.now out.old) }
 {
@@ -207,7 +222,9 @@ pub(crate) fn put_display_window(out: &mut BitWriter, v: &DisplayWindow) -> Resu
 }
 
 #[tactic(auto, unfolding(crate::specs::Vui::bitstream_restriction))]
-pub(crate) fn bitstream_restriction_of(bits: &mut BitReader) -> Result<BitstreamRestriction, FieldFault>
+pub(crate) fn bitstream_restriction_of(
+    bits: &mut BitReader,
+) -> Result<BitstreamRestriction, FieldFault>
     ensures { Fills (λ v. v) means bits.old bits.new result (read bitstream_restriction bits.old.left) }
 {
     let bitstream_restriction_flag = u8_of(bits, 1)?;
@@ -226,7 +243,10 @@ pub(crate) fn bitstream_restriction_of(bits: &mut BitReader) -> Result<Bitstream
 }
 
 #[tactic(auto, unfolding(crate::specs::Vui::bitstream_restriction))]
-pub(crate) fn put_bitstream_restriction(out: &mut BitWriter, v: &BitstreamRestriction) -> Result<(), AllocError>
+pub(crate) fn put_bitstream_restriction(
+    out: &mut BitWriter,
+    v: &BitstreamRestriction,
+) -> Result<(), AllocError>
     requires { Valid bitstream_restriction v.now }
     ensures { OnOk result (out.new ≡ put bitstream_restriction v.now out.old) }
 {

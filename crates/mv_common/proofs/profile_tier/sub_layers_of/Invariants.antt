@@ -7,5 +7,5 @@ use Rattle.mv_common.proofs.profile_tier.sub_layers_of.Given as goal
 abbrev pub invariant-loop-i : goal.invariant-loop-i
 invariant-loop-i l =
     (read (sub_layers l.subs l.profile_flags l.level_flags) l.fn.bits.left
-      ≡ rest_of_columns (sub_layer l.profile_flags l.level_flags) l.i l.subs l.profiles.items l.levels.items l.bits.left)
+    ≡ rest_of_columns (sub_layer l.profile_flags l.level_flags) l.i l.subs l.profiles.items l.levels.items l.bits.left)
     × (l.bits.total ≡ l.fn.bits.total)
