@@ -7,7 +7,7 @@ use Rattle.mv_defs.specs.Verdict.{verdict_of}
 use Rattle.mv_extract.specs.declared.error.ExtractError.{ExtractError}
 use Rattle.mv_extract.specs.declared.error.ExtractError.TheVariants.{Refused as RefusedBy, Read, Write, TooLong as TooManyBytes, Memory}
 use Rattle.mv_extract.specs.Answers.{Accepts, Answers, due, answer_by}
-use Rattle.mv_extract.specs.Call.{Input, Output, InputRose, OutputRose}
+use Rattle.mv_extract.specs.Call.{Input, Output}
 use Rattle.mv_extract.proofs.Whole.{settles}
 use Rattle.mv_cli.specs.declared.ending.Ending.{Ending}
 use Rattle.mv_cli.specs.declared.ending.Ending.TheVariants.{Done, Refused, Usage, ReadFault, WriteFault, NoMemory, TooLong}
