@@ -1,3 +1,4 @@
+pub mod Escaped
 pub mod FactLaws
 pub mod Framed
 pub mod Longer
