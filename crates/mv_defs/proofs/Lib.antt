@@ -5,3 +5,4 @@ pub mod Longer
 pub mod Parts
 pub mod Pieces
 pub mod Trimmed
+pub mod Unescaped
