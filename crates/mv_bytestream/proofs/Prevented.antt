@@ -1,11 +1,11 @@
 -- Emulation prevention by runs: what a search for two zero bytes, or for 00 00 03, says of the bytes before it.
-use Rattle.std.proofs.Common.{◌≡◌, ℕ, zero, suc, ◌+◌, ◌-◌, ◌<◌, ◌≤◌, Bool, true, false, ◌==◌, ◌&&◌, nat_le, List, [], ◌∷◌, ◌++◌, length, take, drop, get_or, if◌then◌else◌, refl, ap, sym, ◌∙◌, subst, arith, slice_range, append_assoc, append-nil}
-use Rattle.std.proofs.lemmas.Bool.{and_parts, eqb-true, leb-false, le-leb, lt-leb}
+use Rattle.std.proofs.Common.{◌≡◌, ℕ, zero, suc, ◌+◌, ◌-◌, ◌<◌, ◌≤◌, true, false, ◌==◌, ◌&&◌, nat_le, List, [], ◌∷◌, ◌++◌, length, take, drop, get_or, if◌then◌else◌, refl, ap, sym, ◌∙◌, subst, arith, slice_range, append_assoc, append-nil}
+use Rattle.std.proofs.lemmas.Bool.{and_parts, eqb-true, le-leb, lt-leb}
 use Rattle.std.proofs.lemmas.Bool.Decides.{nat_tests}
 use Rattle.std.proofs.lemmas.List.{length-drop, drop-drop, take_rest}
 use Rattle.memchr.specs.Find.{OccursAt, Nowhere}
 use Rattle.mv_defs.specs.Escapes.{both_zero, unescaped, payload, escaped}
-use Rattle.mv_defs.proofs.Escaped.{choice, and-false, both_zero-second, unescaped-drops, unescaped-keeps, escaped-puts, escaped-keeps, escaped-ends, escaped-stops}
+use Rattle.mv_defs.proofs.Escaped.{choice, and-false, both_zero-second, unescaped-drops, unescaped-keeps, escaped-puts, escaped-keeps, escaped-stops}
 
 -- two zero bytes, and a 03 behind them
 abbrev pub zeros : List ℕ

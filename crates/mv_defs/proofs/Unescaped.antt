@@ -1,6 +1,6 @@
 -- A unit that is in order is that of its own head and payload (7.3.1.1, 7.3.1.2, 7.4.2).
-use Rattle.std.proofs.Common.{◌≡◌, ◌≢◌, ℕ, suc, ◌+◌, ◌-◌, ◌*◌, ◌/◌, ◌%◌, ◌<◌, ◌≤◌, Bool, true, false, ◌==◌, ◌&&◌, ◌||◌, nat_le, nat_lt, List, [], ◌∷◌, length, get_or, take, All, Result, Ok, Err, IsOk, refl, ap, sym, ◌∙◌, subst, arith, if◌then◌else◌}
-use Rattle.std.proofs.lemmas.Bool.{or_parts, and_parts, eqb-true, eqb-false, leb-false}
+use Rattle.std.proofs.Common.{◌≡◌, ◌≢◌, ℕ, suc, ◌+◌, ◌-◌, ◌*◌, ◌/◌, ◌%◌, ◌<◌, ◌≤◌, Bool, true, false, ◌==◌, ◌&&◌, ◌||◌, nat_le, nat_lt, List, [], ◌∷◌, length, get_or, All, Ok, Err, IsOk, refl, ap, sym, ◌∙◌, subst, arith, if◌then◌else◌}
+use Rattle.std.proofs.lemmas.Bool.{or_parts, and_parts, eqb-true, eqb-false, ne_eqb}
 use Rattle.std.proofs.lemmas.Bool.Decides.{nat_tests}
 use Rattle.std.proofs.lemmas.List.{take_all}
 use Rattle.mv_io.specs.declared.rule.Rule.{Rule}
@@ -8,9 +8,9 @@ use Rattle.mv_defs.specs.declared.head.UnitHead.{UnitHead}
 use Rattle.mv_defs.specs.Head.{head, nuh_layer_id, temporal_id}
 use Rattle.mv_defs.specs.Units.{is_code, has_code}
 use Rattle.mv_defs.specs.Framing.{IsFramable}
-use Rattle.mv_defs.specs.Rules.{longest_unit, short_unit, above_three, begins_emulation, has_emulation, emulation, long_unit, bad_head, checked_head}
+use Rattle.mv_defs.specs.Rules.{longest_unit, short_unit, begins_emulation, has_emulation, emulation, long_unit, bad_head, checked_head}
 use Rattle.mv_defs.specs.Escapes.{both_zero, unescaped, payload, head_first, head_second, escaped, escape}
-use Rattle.mv_defs.proofs.Escaped.{choice, and-false, both_zero-second, unescaped-drops, unescaped-keeps, escaped-puts, escaped-keeps, escaped-ends, escaped-stops}
+use Rattle.mv_defs.proofs.Escaped.{has_code-escaped, choice, and-false, both_zero-second, unescaped-drops, unescaped-keeps, escaped-puts, escaped-keeps, escaped-ends, escaped-stops}
 
 -- a byte behind two zeros that is no emulation_prevention_three_byte is above 03
 above : (z : Bool) (c : ℕ) (t : Bool) → (z && (c == 1)) ≡ false → (z && ((c == 0) || (c == 2) || ((c == 3) && t))) ≡ false → (z && (c == 3)) ≡ false → (z && nat_le c 3) ≡ false
@@ -129,3 +129,28 @@ head-escape h p kind layer tid =
     ap (λ n. record { kind = n; layer = nuh_layer_id (escape h p); tid = temporal_id (escape h p) }) k
     ∙ ap (λ n. record { kind = h.kind; layer = n; tid = temporal_id (escape h p) }) l
     ∙ ap (λ n. record { kind = h.kind; layer = h.layer; tid = n }) t
+
+-- a payload that ends in a byte other than zero gives a unit that a byte stream carries unchanged
+ends-escaped : (a b : ℕ) (p : List ℕ) → get_or (b ∷ p) (length p) 0 ≢ 0 → get_or (b ∷ escaped a b p) (length (escaped a b p)) 0 ≢ 0
+ends-escaped a b [] some =
+    let isnt : (b == 0) ≡ false = ne_eqb b 0 some in
+    subst (λ s. get_or (b ∷ s) (length s) 0 ≢ 0) (sym (escaped-stops a b (both_zero-second a b isnt))) some
+ends-escaped a b (c ∷ p) some =
+    choice (both_zero a b && nat_le c 3) (get_or (b ∷ escaped a b (c ∷ p)) (length (escaped a b (c ∷ p))) 0 ≢ 0)
+    (λ is. subst (λ s. get_or (b ∷ s) (length s) 0 ≢ 0) (sym (escaped-puts a b c p is)) (ends-escaped 3 c p some))
+    (λ isnt. subst (λ s. get_or (b ∷ s) (length s) 0 ≢ 0) (sym (escaped-keeps a b c p isnt)) (ends-escaped b c p some))
+
+last-escaped : (a b : ℕ) (p : List ℕ) → get_or p (length p - 1) 0 ≢ 0 → get_or (a ∷ b ∷ escaped a b p) (suc (length (escaped a b p))) 0 ≢ 0
+last-escaped a b [] some = absurd (some refl)
+last-escaped a b (c ∷ p) some =
+    let place : suc (length p) - 1 ≡ length p = omega arith in
+    ends-escaped a b (c ∷ p) (λ is. some (ap (λ n. get_or (c ∷ p) n 0) place ∙ is))
+
+pub framable-escape : (h : UnitHead) (p : List ℕ) → get_or p (length p - 1) 0 ≢ 0 → IsFramable (escape h p)
+framable-escape h p some =
+    let place : length (escape h p) - 1 ≡ suc (length (escaped (head_first h) (head_second h) p)) = omega arith in
+    record {
+      head = omega arith;
+      clean = has_code-escaped (head_first h) (head_second h) p;
+      ends = λ is. last-escaped (head_first h) (head_second h) p some (ap (λ n. get_or (escape h p) n 0) (sym place) ∙ is);
+    }

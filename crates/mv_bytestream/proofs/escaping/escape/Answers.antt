@@ -1,4 +1,4 @@
-use Rattle.std.proofs.Common.{◌≡◌, ℕ, ◌+◌, ◌*◌, ◌<◌, ◌≤◌, ◌%◌, ◌++◌, List, [], ◌∷◌, length, ap, sym, ◌∙◌, arith}
+use Rattle.std.proofs.Common.{◌≡◌, ℕ, ◌<◌, ◌++◌, List, [], ◌∷◌, length, ap, sym, ◌∙◌, arith}
 use Rattle.mv_defs.specs.Escapes.{escape as unit_of, escaped, head_first, head_second}
 use Rattle.mv_defs.specs.Rules.{has_emulation}
 use Rattle.mv_defs.specs.Units.{has_code}

@@ -1,4 +1,4 @@
-use Rattle.std.proofs.Common.{ℕ, ◌-◌, ◌++◌, drop, length, ap, sym, ◌∙◌, append-nil, arith}
+use Rattle.std.proofs.Common.{◌-◌, ◌++◌, drop, ap, sym, ◌∙◌, append-nil, arith}
 use Rattle.std.proofs.lemmas.List.{length-drop}
 use Rattle.mv_bytestream.proofs.Prevented.{payload-none}
 use Rattle.mv_bytestream.proofs.unescaping.unescape.Goals as goal
