@@ -30,8 +30,8 @@ pub fn unescape(alloc: Global, unit: &[u8]) -> Result<Vec<u8>, AllocError>
 }
 
 // The place of the first emulation_prevention_three_byte from `from` on, or the unit's length where there is
-// none. The payload from `from` on is what stands before it and what the unit gives behind it; two bytes before
-// each are asked for, as `payload` asks for a head.
+// none. What the unit gives from `from` on is its bytes up to that place, and then what it gives from behind it
+// on. `payload` passes over two bytes, so each rest of the unit is taken from two bytes before.
 fn next_three(unit: &[u8], from: usize) -> usize
     requires low { 2 ≤ from }
     requires high { from < length unit.now }
