@@ -1,4 +1,5 @@
 pub mod Codes
 pub mod Ends
+pub mod Prevented
 pub mod Steps
 pub mod Written
