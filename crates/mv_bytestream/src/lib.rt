@@ -5,6 +5,9 @@
 mod escaping;
 mod framing;
 mod heads;
+mod machine;
+mod making;
+mod scanner;
 mod splitting;
 #[cfg(test)]
 mod tests;
@@ -14,5 +17,6 @@ pub use escaping::escape;
 pub use framing::frame;
 pub use heads::read_head;
 pub use mv_defs::UnitHead;
+pub use scanner::{Found, Scanner};
 pub use splitting::{ScanFault, Span, split};
 pub use unescaping::unescape;
