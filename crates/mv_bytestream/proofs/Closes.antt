@@ -1,27 +1,26 @@
 -- What a start code changes in what a scanner keeps, and what handing out changes.
-use Rattle.std.proofs.Common.{◌≡◌, ℕ, zero, suc, ◌+◌, ◌-◌, ◌<◌, ◌≤◌, Bool, true, false, cond, not, find, List, [], ◌∷◌, ◌++◌, length, take, drop, replicate, Option, None, Some, refl, ap, sym, ◌∙◌, subst, arith, length-append, append_assoc, append-nil}
+use Rattle.std.proofs.Common.{◌≡◌, ℕ, zero, suc, ◌+◌, ◌-◌, ◌≤◌, true, false, cond, not, find, List, [], ◌∷◌, ◌++◌, length, drop, replicate, Option, None, Some, refl, ap, sym, ◌∙◌, subst, arith, length-append, append_assoc}
 use Rattle.std.specs.List.{position_from}
 use Rattle.std.specs.Option.{option_map, option_or, option_to_list}
 use Rattle.std.proofs.Math.Seq.{drop-append_seam}
 use Rattle.std.proofs.lemmas.Bool.{true≢false}
-use Rattle.std.proofs.lemmas.List.{length-replicate, drop-drop, replicate-append-replicate}
+use Rattle.std.proofs.lemmas.List.{drop-drop, replicate-append-replicate}
 use Rattle.mv_io.specs.declared.rule.Rule.{Rule}
-use Rattle.mv_io.specs.declared.refusal.Refusal.{Refusal}
-use Rattle.mv_defs.specs.Units.{start_code, has_code, is_zero, pieces, leading, trimmed, NalUnit, placed, units}
+use Rattle.mv_defs.specs.Units.{has_code, is_zero, pieces, leading, trimmed, NalUnit, placed, units}
 use Rattle.mv_defs.specs.Facts.{Fact, fact, facts_behind}
 use Rattle.mv_defs.specs.Rules.{short_unit, breaks, has_emulation, unit_rules}
 use Rattle.mv_defs.specs.Verdict.{refusal_by, verdict_by, refused_leading}
-use Rattle.mv_defs.specs.Event.{last, early_rules, refusal_shown, whole_units}
+use Rattle.mv_defs.specs.Event.{early_rules, refusal_shown, whole_units}
 use Rattle.mv_defs.proofs.Behind.{has_code-front, trimmed-zeros}
 use Rattle.mv_defs.proofs.Early.{refused, rules-is}
 use Rattle.mv_defs.proofs.FactLaws.{verdict-push}
-use Rattle.mv_defs.proofs.Longer.{span, placed-append}
+use Rattle.mv_defs.proofs.Longer.{span}
 use Rattle.mv_defs.proofs.Pieces.{pieces-code}
-use Rattle.mv_defs.proofs.Shown.{Open, pieces-more, open-clean, before, behind, making_of, late, front_shown, shown_at, shown-is, units-none, units-end, whole-is}
+use Rattle.mv_defs.proofs.Shown.{Open, pieces-more, open-clean, before, behind, front_shown, shown-is, units-none, units-end, whole-is}
 use Rattle.mv_defs.proofs.Shows.{before-append}
 use Rattle.mv_defs.proofs.Silent.{no_front}
 use Rattle.mv_bytestream.specs.Scan.{Scan, StandsFor, bytes_of, handed_out}
-use Rattle.mv_bytestream.proofs.Runs.{Runs, SomeRuns, running, runs, runs-stands, open-length, keeps_at, quiet_at, fact_at, leading-front}
+use Rattle.mv_bytestream.proofs.Runs.{Runs, running, runs-stands, open-length, keeps_at, fact_at, leading-front}
 
 -- the open piece less the zero bytes of a start code
 abbrev closed : Option NalUnit → ℕ → List ℕ
@@ -186,8 +185,8 @@ none-stands s p fed given zeros left h =
     record {
       fed = h.count;
       accepted =
-        ap (λ f. option_or f (option_or (verdict_by unit_rules (units s)) None)) (front-quiet s [] p fed given None zeros h)
-        ∙ ap (λ us. option_or (verdict_by unit_rules us) None) none;
+          ap (λ f. option_or f (option_or (verdict_by unit_rules (units s)) None)) (front-quiet s [] p fed given None zeros h)
+          ∙ ap (λ us. option_or (verdict_by unit_rules us) None) none;
       given = subst (λ us. given ≤ length us) (sym none) (let n : given ≡ length (before []) = h.number in omega arith);
       waiting = ap (drop given) none ∙ ap (λ n. drop n []) h.number;
       keeps = λ e. absurd (true≢false e);
@@ -207,10 +206,34 @@ handed-stands scan u s is h = record {
   where
     left : drop scan.given (whole_units scan.ended s) ≡ u ∷ []
     left = h.waiting ∙ ap option_to_list is
+
     one_more : (n : ℕ) (us : List NalUnit) (u : NalUnit) → drop n us ≡ u ∷ [] → n + 1 ≤ length us
     one_more zero [] u e = absurd (cc)
     one_more (suc n) [] u e = absurd (cc)
     one_more zero (x ∷ us) u e = omega arith
     one_more (suc n) (x ∷ us) u e = let rest : n + 1 ≤ length us = one_more n us u e in omega arith
+
     drop_one : (n : ℕ) (us : List NalUnit) (u : NalUnit) → drop n us ≡ u ∷ [] → drop (n + 1) us ≡ []
     drop_one n us u e = sym (drop-drop 1 n us) ∙ ap (drop 1) e
+
+-- nothing was fed
+pub nothing-stands : StandsFor (running 0 0 None 0) []
+unfolding pieces placed facts_behind
+nothing-stands = runs-stands [] [] [] 0 0 None 0 (record {
+  opened = refl;
+  unit_is = refl;
+  piece = refl;
+  front_none = refl;
+  closed_none = refl;
+  late_none = refl;
+  number = refl;
+  count = refl;
+})
+
+-- the unit that waits, if one does, is handed out
+pub handing-stands : (scan : Scan) (s : List ℕ) → StandsFor scan s → StandsFor (handed_out scan) s
+handing-stands scan s h = go scan.waiting refl
+  where
+    go : (w : Option NalUnit) → scan.waiting ≡ w → StandsFor (elim w [ None ↦ scan | Some u ↦ record scan { waiting = None; given = scan.given + 1 } ]) s
+    go None is = h
+    go (Some u) is = handed-stands scan u s is h

@@ -1,16 +1,12 @@
 -- Bytes behind a unit in the making: whether with them it breaks Emulation or Long.
-use Rattle.std.proofs.Common.{◌≡◌, ◌≢◌, ℕ, zero, suc, ◌+◌, ◌-◌, ◌<◌, ◌≤◌, min, Bool, true, false, cond, ◌==◌, ◌&&◌, ◌||◌, nat_lt, nat_le, List, [], ◌∷◌, ◌++◌, length, take, drop, replicate, slice_index, get_or, Option, None, Some, refl, ap, sym, ◌∙◌, subst, arith, length-append, append_assoc, append-nil, ◌⊎◌, inl, inr}
-use Rattle.std.proofs.lemmas.Bool.{or_parts, or_from, or_left, or_right, and_left, and_right, true≢false, ltb-true, ltb-false, lt-ltb, le-ltb, le-leb, lt-leb, leb-true, leb-false, ne_eqb, cases_lt}
+use Rattle.std.proofs.Common.{◌≡◌, ◌≢◌, ℕ, zero, suc, ◌+◌, ◌-◌, ◌<◌, ◌≤◌, min, Bool, true, false, cond, ◌==◌, ◌&&◌, ◌||◌, nat_lt, nat_le, List, [], ◌∷◌, ◌++◌, length, take, drop, replicate, slice_index, Option, None, Some, refl, ap, sym, ◌∙◌, arith, length-append, append_assoc, ◌⊎◌, inl, inr}
+use Rattle.std.proofs.lemmas.Bool.{or_parts, or_left, or_right, and_right, true≢false, lt-ltb, le-ltb, le-leb, lt-leb, ne_eqb, cases_lt}
 use Rattle.std.proofs.lemmas.List.{length-replicate, take-append-le, take-append-drop, replicate-append-replicate}
 use Rattle.mv_io.specs.declared.rule.Rule.{Rule}
-use Rattle.mv_io.specs.declared.refusal.Refusal.{Refusal}
-use Rattle.mv_defs.specs.Units.{is_zero, trimmed}
-use Rattle.mv_defs.specs.Facts.{Fact}
+use Rattle.mv_defs.specs.Units.{is_zero}
 use Rattle.mv_defs.specs.Rules.{longest_unit, above_three, begins_emulation, has_emulation, emulation, long_unit}
-use Rattle.mv_defs.specs.Verdict.{refusal_by}
-use Rattle.mv_defs.specs.Event.{early_rules}
 use Rattle.mv_defs.proofs.Behind.{IsTrimmed, trimmed-tail, one_nonzero}
-use Rattle.mv_defs.proofs.Early.{refused, early_of, early-is, has_emulation-front, emulation-more}
+use Rattle.mv_defs.proofs.Early.{has_emulation-front, emulation-more}
 use Rattle.mv_defs.proofs.Silent.{take-short}
 use Rattle.mv_bytestream.specs.Bytes.{IsQuiet, ends_three, early_rule}
 
@@ -43,7 +39,7 @@ ends-tail a b c d u =
     let two : length (a ∷ s) - 2 ≡ suc (length s - 2) = omega arith in
     let three : length (a ∷ s) - 3 ≡ suc (length s - 3) = omega arith in
     ap (λ t. t && (slice_index (a ∷ s) (length (a ∷ s) - 3) == 0) && (slice_index (a ∷ s) (length (a ∷ s) - 2) == 0) && (slice_index (a ∷ s) (length (a ∷ s) - 1) == 3))
-      (le-leb 3 (length (a ∷ s)) (omega arith) ∙ sym (le-leb 3 (length s) (omega arith)))
+    (le-leb 3 (length (a ∷ s)) (omega arith) ∙ sym (le-leb 3 (length s) (omega arith)))
     ∙ ap (λ n. nat_le 3 (length s) && (slice_index (a ∷ s) n == 0) && (slice_index (a ∷ s) (length (a ∷ s) - 2) == 0) && (slice_index (a ∷ s) (length (a ∷ s) - 1) == 3)) three
     ∙ ap (λ n. nat_le 3 (length s) && (slice_index s (length s - 3) == 0) && (slice_index (a ∷ s) n == 0) && (slice_index (a ∷ s) (length (a ∷ s) - 1) == 3)) two
     ∙ ap (λ n. nat_le 3 (length s) && (slice_index s (length s - 3) == 0) && (slice_index s (length s - 2) == 0) && (slice_index (a ∷ s) n == 3)) one
@@ -115,6 +111,7 @@ with_two u b q nonzero = sym (emulation-behind u (0 ∷ 0 ∷ b ∷ []) q.ends q
     go false true z e = refl
     go false false true e = refl
     go false false false e = refl
+
     is_nonzero : (b : ℕ) → b ≢ 0 → (b == 0) ≡ false
     is_nonzero b h = ne_eqb b 0 h
 
@@ -143,34 +140,43 @@ early-rule u z b e q fits is = go (cases_lt (min z 2) (longest_unit - length u))
   where
     x : List ℕ
     x = u ++ (replicate z 0 ++ b ∷ [])
+
     long : length x ≡ length u + z + 1
     long = omega (arith, length-append u (replicate z 0 ++ b ∷ []), length-append (replicate z 0) (b ∷ []), length-replicate {A = ℕ} z 0)
+
     whole : z < longest_unit - length u → emulation x ≡ has_emulation x
     whole below = ap has_emulation (take-short longest_unit x (omega (arith, long)))
+
     is_long : longest_unit - length u ≤ z → long_unit x ≡ true
     is_long above = lt-ltb longest_unit (length x) (omega (arith, long))
+
     isnt_long : z < longest_unit - length u → long_unit x ≡ false
     isnt_long below = le-ltb longest_unit (length x) (omega (arith, long))
+
     front : (m : ℕ) → m ≤ z → x ≡ (u ++ replicate m 0) ++ (replicate (z - m) 0 ++ b ∷ [])
     front m low =
         let same : m + (z - m) ≡ z = omega arith in
         ap (λ zs. u ++ (zs ++ b ∷ [])) (ap (λ n. replicate n 0) (sym same) ∙ sym (replicate-append-replicate m (z - m) 0))
         ∙ ap (λ r. u ++ r) (append_assoc (replicate m 0) (replicate (z - m) 0) (b ∷ []))
         ∙ sym (append_assoc u (replicate m 0) (replicate (z - m) 0 ++ b ∷ []))
+
     cut : longest_unit - length u ≤ min z 2 → emulation x ≡ false
     cut above =
         let n : length (u ++ replicate (min z 2) 0) ≡ length u + min z 2 = omega (arith, length-append u (replicate (min z 2) 0), length-replicate {A = ℕ} (min z 2) 0) in
         ap emulation (front (min z 2) (omega arith))
         ∙ ap has_emulation (take-append-le longest_unit (u ++ replicate (min z 2) 0) (replicate (z - min z 2) 0 ++ b ∷ []) (omega arith))
         ∙ prefix-quiet longest_unit (u ++ replicate (min z 2) 0) (zeros-quiet u (min z 2) q (omega arith))
+
     three : min z 2 < longest_unit - length u → longest_unit - length u ≤ z → emulation x ≡ true
     three below above =
         let n : length (u ++ replicate 3 0) ≡ length u + 3 = omega (arith, length-append u (replicate 3 0)) in
         ap emulation (front 3 (omega arith))
         ∙ emulation-more (u ++ replicate 3 0) (replicate (z - 3) 0 ++ b ∷ [])
-          (ap has_emulation (take-short longest_unit (u ++ replicate 3 0) (omega arith)) ∙ emulates-later u (replicate 3 0) refl)
+        (ap has_emulation (take-short longest_unit (u ++ replicate 3 0) (omega arith)) ∙ emulates-later u (replicate 3 0) refl)
+
     rest : Option Rule
     rest = cond (nat_le (longest_unit - length u) z) (Some Rule.Long) None
+
     go : (min z 2 < longest_unit - length u) ⊎ (longest_unit - length u ≤ min z 2) → (z < longest_unit - length u) ⊎ (longest_unit - length u ≤ z) → (e : Bool) → e ≡ has_emulation x →
         early_rule x ≡ cond (e && nat_lt (min z 2) (longest_unit - length u)) (Some Rule.Emulation) rest
     go (inl small) (inl below) true is =

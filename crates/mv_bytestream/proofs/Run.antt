@@ -1,9 +1,9 @@
 -- A search for two zero bytes in a row, in the words of what may stand in a unit.
-use Rattle.std.proofs.Common.{◌≡◌, ◌≢◌, ℕ, zero, suc, ◌+◌, ◌-◌, ◌<◌, ◌≤◌, min, ◌⊎◌, inl, inr, Bool, true, false, ◌==◌, ◌&&◌, ◌||◌, List, [], ◌∷◌, ◌++◌, length, take, drop, get_or, slice_index, refl, ap, sym, ◌∙◌, subst, arith}
-use Rattle.std.proofs.lemmas.Bool.{or_from, or_parts, and_parts, and_left, eqb-true}
-use Rattle.std.proofs.lemmas.List.{get_or-take, length-take, length-take-le}
+use Rattle.std.proofs.Common.{◌≡◌, ◌≢◌, ℕ, zero, suc, ◌+◌, ◌-◌, ◌<◌, ◌≤◌, Bool, true, false, ◌==◌, ◌&&◌, ◌||◌, List, [], ◌∷◌, length, take, get_or, refl, ap, sym, ◌∙◌, arith}
+use Rattle.std.proofs.lemmas.Bool.{or_from, eqb-true}
+use Rattle.std.proofs.lemmas.List.{get_or-take, length-take-le}
 use Rattle.memchr.specs.Find.{OccursAt, Nowhere}
-use Rattle.mv_defs.specs.Units.{is_code, has_code, trimmed}
+use Rattle.mv_defs.specs.Units.{has_code, trimmed}
 use Rattle.mv_defs.specs.Rules.{begins_emulation, above_three, has_emulation}
 use Rattle.mv_defs.proofs.Trimmed.{trimmed-whole}
 
@@ -19,6 +19,7 @@ occurs s k fits a b = record { fits = omega arith; reads = λ j low. reads j low
   where
     none : k + 0 ≡ k
     none = omega arith
+
     reads : (j : ℕ) → j < 2 → get_or s (k + j) 0 ≡ get_or two_zeros j 0
     reads zero low = ap (λ n. get_or s n 0) none ∙ a
     reads (suc zero) low = b
@@ -42,6 +43,7 @@ clean (a ∷ b ∷ c ∷ s) (suc (suc (suc n))) h = or_from _ _ (first (a == 0) 
   where
     shift : (k : ℕ) → get_or (b ∷ c ∷ s) (k + 1) 0 ≡ 0 → get_or (a ∷ b ∷ c ∷ s) (suc k + 1) 0 ≡ 0
     shift k y = let same : suc k + 1 ≡ suc (k + 1) = omega arith in ap (λ n. get_or (a ∷ b ∷ c ∷ s) n 0) same ∙ y
+
     first : (x y : Bool) → (a == 0) ≡ x → (b == 0) ≡ y → (x && y && (c == 1)) ≡ false
     first true true p q = absurd (h 0 (omega arith) (eqb-true a 0 p) (eqb-true b 0 q))
     first true false p q = refl
@@ -59,6 +61,7 @@ quiet (a ∷ b ∷ s) (suc (suc n)) h = or_from _ _ (first (take n s) (a == 0) (
   where
     shift : (k : ℕ) → get_or (b ∷ s) (k + 1) 0 ≡ 0 → get_or (a ∷ b ∷ s) (suc k + 1) 0 ≡ 0
     shift k y = let same : suc k + 1 ≡ suc (k + 1) = omega arith in ap (λ n. get_or (a ∷ b ∷ s) n 0) same ∙ y
+
     first : (r : List ℕ) (x y : Bool) → (a == 0) ≡ x → (b == 0) ≡ y → begins_emulation (a ∷ b ∷ r) ≡ false
     first [] x y p q = refl
     first (c ∷ r) true true p q = absurd (h 0 (omega arith) (eqb-true a 0 p) (eqb-true b 0 q))
@@ -79,9 +82,9 @@ ends s zero inside last = ap trimmed (none s) ∙ sym (none s)
     none (a ∷ s) = refl
 ends s (suc n) inside last =
     trimmed-whole (take (suc n) s) (λ e. last (omega arith)
-      (let long : length (take (suc n) s) ≡ suc n = length-take-le (suc n) s inside in
-       let place : length (take (suc n) s) - 1 ≡ suc n - 1 = omega arith in
-       sym (get_or-take (suc n) s (suc n - 1) 0 (omega arith)) ∙ ap (λ k. get_or (take (suc n) s) k 0) (sym place) ∙ e))
+    (let long : length (take (suc n) s) ≡ suc n = length-take-le (suc n) s inside in
+    let place : length (take (suc n) s) - 1 ≡ suc n - 1 = omega arith in
+    sym (get_or-take (suc n) s (suc n - 1) 0 (omega arith)) ∙ ap (λ k. get_or (take (suc n) s) k 0) (sym place) ∙ e))
 
 -- a byte before a zero byte isn't zero
 before-zero : (s : List ℕ) (n m : ℕ) → Nowhere (OccursAt s two_zeros) 0 m → n < length s → n ≤ m → get_or s n 0 ≡ 0 → 0 < n → get_or s (n - 1) 0 ≢ 0

@@ -1,28 +1,24 @@
 -- What a byte, or a run of bytes, changes in what a scanner keeps of the bytes fed.
-use Rattle.std.proofs.Common.{◌≡◌, ℕ, zero, suc, ◌+◌, ◌-◌, ◌<◌, ◌≤◌, Bool, true, false, cond, not, ◌==◌, ◌&&◌, List, [], ◌∷◌, ◌++◌, length, take, drop, replicate, Option, None, Some, refl, ap, sym, ◌∙◌, subst, arith, length-append, append_assoc, append-nil}
+use Rattle.std.proofs.Common.{◌≡◌, ℕ, zero, suc, ◌+◌, ◌≤◌, Bool, true, false, cond, not, List, [], ◌∷◌, ◌++◌, length, drop, replicate, Option, None, Some, refl, ap, sym, ◌∙◌, subst, arith, length-append, append_assoc, append-nil}
 use Rattle.std.specs.List.{position_from}
-use Rattle.std.specs.Option.{option_map, option_or, option_to_list}
+use Rattle.std.specs.Option.{option_map, option_or}
 use Rattle.std.proofs.Math.Seq.{drop-length}
 use Rattle.std.proofs.lemmas.List.{replicate_more}
-use Rattle.mv_io.specs.declared.rule.Rule.{Rule}
 use Rattle.mv_io.specs.declared.refusal.Refusal.{Refusal}
-use Rattle.mv_defs.specs.Units.{is_zero, start_code, has_code, pieces, joined, trimmed, NalUnit, placed, units}
+use Rattle.mv_defs.specs.Units.{is_zero, start_code, pieces, joined, NalUnit}
 use Rattle.mv_defs.specs.Facts.{Fact, fact}
 use Rattle.mv_defs.specs.Head.{head}
-use Rattle.mv_defs.specs.Rules.{short_unit, emulation, long_unit, unit_rules}
+use Rattle.mv_defs.specs.Rules.{unit_rules}
 use Rattle.mv_defs.specs.Verdict.{refusal_by, verdict_by, refused_leading}
-use Rattle.mv_defs.specs.Event.{last, early_rules, refusal_shown, whole_units}
-use Rattle.mv_defs.proofs.Behind.{IsTrimmed, has_code-front, trimmed-zeros}
-use Rattle.mv_defs.proofs.Early.{refused, rules-is}
-use Rattle.mv_defs.proofs.FactLaws.{verdict-push}
+use Rattle.mv_defs.specs.Event.{last, early_rules, refusal_shown}
+use Rattle.mv_defs.proofs.Behind.{IsTrimmed}
 use Rattle.mv_defs.proofs.Framed.{has_code-zero}
-use Rattle.mv_defs.proofs.Longer.{span, placed-append}
-use Rattle.mv_defs.proofs.Pieces.{pieces-clean, pieces-code, pieces_split}
-use Rattle.mv_defs.proofs.Shown.{Open, opens, pieces-more, open-clean, before, behind, making_of, last-end, last-is, late, front_shown, shown_at, shown-is, whole-is}
-use Rattle.mv_defs.proofs.Shows.{before-append}
+use Rattle.mv_defs.proofs.Longer.{span}
+use Rattle.mv_defs.proofs.Pieces.{pieces-clean, pieces_split}
+use Rattle.mv_defs.proofs.Shown.{Open, opens, pieces-more, open-clean, before, behind, making_of, last-end, last-is, late, front_shown, shown-is, whole-is}
 use Rattle.mv_defs.proofs.Silent.{nothing_at, no_front}
 use Rattle.mv_defs.proofs.Trimmed.{trimmed-zero}
-use Rattle.mv_bytestream.specs.Scan.{Scan, StandsFor, Keeps, bytes_of, handed_out}
+use Rattle.mv_bytestream.specs.Scan.{Scan, StandsFor, Keeps, bytes_of}
 
 -- a scanner in which no unit waits, whose input goes on and that wasn't refused
 abbrev pub running : ℕ → ℕ → Option NalUnit → ℕ → Scan
@@ -42,7 +38,7 @@ pub record Runs (s : List ℕ) (cs : List (List ℕ)) (p : List ℕ) (fed given 
 abbrev pub SomeRuns : List ℕ → ℕ → ℕ → Option NalUnit → ℕ → Type 0
 SomeRuns s fed given making zeros = (cs : List (List ℕ)) × (p : List ℕ) × Runs s cs p fed given making zeros
 
-none_left : (n : ℕ) (us : List NalUnit) → n ≤ length us → drop n us ≡ [] → n ≡ length us
+pub none_left : (n : ℕ) (us : List NalUnit) → n ≤ length us → drop n us ≡ [] → n ≡ length us
 none_left zero [] low h = refl
 none_left zero (u ∷ us) low h = absurd (cc)
 none_left (suc n) [] low h = absurd (omega arith)
@@ -55,17 +51,20 @@ runs s fed given making zeros h = go (opens s)
     go (cs, p, is) =
         let keeps = h.keeps refl in
         let quiet = nothing_at (front_shown (cs ++ p ∷ [])) (verdict_by unit_rules (before cs)) (late cs p) (sym (shown-is unit_rules s cs p is) ∙ h.accepted) in
-        let same : Some p ≡ Some (bytes_of making ++ replicate zeros 0) = sym (ap last is ∙ last-end cs p) ∙ keeps.piece in
-        (cs, p, record {
-          opened = is;
-          unit_is = sym (last-is s cs p is) ∙ keeps.unit;
-          piece = cc;
-          front_none = quiet.0;
-          closed_none = quiet.1;
-          late_none = quiet.2;
-          number = none_left given (before cs) (subst (λ us. given ≤ length us) (whole-is s cs p is) h.given) (ap (drop given) (sym (whole-is s cs p is)) ∙ h.waiting);
-          count = h.fed;
-        })
+        let same : Some p ≡ Some (bytes_of making ++ replicate zeros 0) = sym (ap last is ∙ last-end cs p) ∙ keeps.piece in (
+          cs,
+          p,
+          record {
+            opened = is;
+            unit_is = sym (last-is s cs p is) ∙ keeps.unit;
+            piece = cc;
+            front_none = quiet.0;
+            closed_none = quiet.1;
+            late_none = quiet.2;
+            number = none_left given (before cs) (subst (λ us. given ≤ length us) (whole-is s cs p is) h.given) (ap (drop given) (sym (whole-is s cs p is)) ∙ h.waiting);
+            count = h.fed;
+          },
+        )
 
 pub quiet_at : (f v l : Option Refusal) → f ≡ None → v ≡ None → l ≡ None → option_or f (option_or v l) ≡ None
 quiet_at f v l a b c = ap (λ f. option_or f (option_or v l)) a ∙ ap (λ v. option_or v l) b ∙ c
@@ -99,8 +98,8 @@ pub open-length : (s : List ℕ) (cs : List (List ℕ)) (p : List ℕ) → Open 
 open-length s cs p is =
     joined-length cs p 0
     ∙ (let same : joined (cs ++ p ∷ []) ≡ s = ap joined (sym is) ∙ (pieces_split s).1 in
-       let none : 0 + length (joined (cs ++ p ∷ [])) ≡ length (joined (cs ++ p ∷ [])) = omega arith in
-       none ∙ ap length same)
+    let none : 0 + length (joined (cs ++ p ∷ [])) ≡ length (joined (cs ++ p ∷ [])) = omega arith in
+    none ∙ ap length same)
 
 -- a zero byte more
 abbrev leading_in : ℕ → List ℕ → Option ℕ
@@ -133,9 +132,9 @@ runs-zero s cs p fed given making zeros h = record {
   opened = pieces-more s (0 ∷ []) cs p h.opened ∙ ap (λ qs. cs ++ qs) (pieces-clean (p ++ 0 ∷ []) (has_code-zero p ∙ open-clean s cs p h.opened));
   unit_is = same_making cs ∙ h.unit_is;
   piece =
-    ap (λ q. q ++ 0 ∷ []) h.piece
-    ∙ append_assoc (bytes_of making) (replicate zeros 0) (0 ∷ [])
-    ∙ ap (λ w. bytes_of making ++ w) (replicate_more zeros 0);
+      ap (λ q. q ++ 0 ∷ []) h.piece
+      ∙ append_assoc (bytes_of making) (replicate zeros 0) (0 ∷ [])
+      ∙ ap (λ w. bytes_of making ++ w) (replicate_more zeros 0);
   front_none = same_front cs h.front_none;
   closed_none = h.closed_none;
   late_none = same_late cs ∙ h.late_none;
@@ -146,9 +145,11 @@ runs-zero s cs p fed given making zeros h = record {
     same_making : (cs : List (List ℕ)) → making_of cs (p ++ 0 ∷ []) ≡ making_of cs p
     same_making [] = refl
     same_making (c ∷ cs) = ap (λ b. Some (record { place = span (c ∷ cs) 0; bytes = b })) (trimmed-zero p)
+
     same_front : (cs : List (List ℕ)) → front_shown (cs ++ p ∷ []) ≡ None → front_shown (cs ++ (p ++ 0 ∷ []) ∷ []) ≡ None
     same_front [] e = ap (option_map refused_leading) (leading-zero 0 p) ∙ e
     same_front (c ∷ cs) e = e
+
     same_late : (cs : List (List ℕ)) → late cs (p ++ 0 ∷ []) ≡ late cs p
     same_late [] = refl
     same_late (c ∷ cs) = ap (λ b. refusal_by early_rules (fact (before (c ∷ cs)) (record { place = span (c ∷ cs) 0; bytes = b }))) (trimmed-zero p)
@@ -189,10 +190,10 @@ runs-content s c cs p fed given u zeros w h clean ends none =
       front_none = h.front_none;
       closed_none = h.closed_none;
       late_none =
-        ap (λ b. refusal_by early_rules (fact (before (c ∷ cs)) (record { place = span (c ∷ cs) 0; bytes = b }))) ends
-        ∙ ap (λ n. refusal_by early_rules (fact_at n (span (c ∷ cs) 0) (p ++ w))) (sym h.number)
-        ∙ ap (λ at. refusal_by early_rules (fact_at given at (p ++ w))) place
-        ∙ none;
+          ap (λ b. refusal_by early_rules (fact (before (c ∷ cs)) (record { place = span (c ∷ cs) 0; bytes = b }))) ends
+          ∙ ap (λ n. refusal_by early_rules (fact_at n (span (c ∷ cs) 0) (p ++ w))) (sym h.number)
+          ∙ ap (λ at. refusal_by early_rules (fact_at given at (p ++ w))) place
+          ∙ none;
       number = h.number;
       count = let f : fed ≡ length s = h.count in omega (arith, length-append s w);
     }

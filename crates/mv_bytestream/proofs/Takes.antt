@@ -1,7 +1,7 @@
 -- What a machine stands for once it took a byte, or a run of bytes.
-use Rattle.std.proofs.Common.{◌≡◌, ◌≢◌, ℕ, zero, suc, ◌+◌, ◌-◌, ◌<◌, ◌≤◌, Bool, true, false, cond, ◌==◌, ◌&&◌, nat_le, nat_lt, nat_eq, List, [], ◌∷◌, ◌++◌, length, take, replicate, get_or, Option, None, Some, MatchOption, IfNone, vec_len, refl, ap, sym, ◌∙◌, subst, arith, length-append, append_assoc, append-nil, if◌then◌else◌}
+use Rattle.std.proofs.Common.{◌≡◌, ◌≢◌, ℕ, zero, suc, ◌+◌, ◌<◌, ◌≤◌, Bool, true, false, cond, ◌&&◌, nat_le, nat_lt, nat_eq, List, [], ◌∷◌, ◌++◌, length, take, replicate, get_or, Option, None, Some, IfNone, vec_len, refl, ap, sym, ◌∙◌, subst, arith, length-append, append_assoc, append-nil, if◌then◌else◌}
 use Rattle.std.specs.Option.{option_map}
-use Rattle.std.proofs.lemmas.Bool.{true≢false, and_parts, eqb-true, leb-true, leb-false, ne_eqb, le-ltb}
+use Rattle.std.proofs.lemmas.Bool.{true≢false, and_parts, eqb-true, leb-true, leb-false, ne_eqb, le-ltb, lt-ltb}
 use Rattle.mv_io.specs.declared.rule.Rule.{Rule}
 use Rattle.mv_io.specs.declared.refusal.Refusal.{Refusal}
 use Rattle.mv_defs.specs.Units.{has_code, is_zero, pieces, trimmed, NalUnit}
@@ -9,19 +9,18 @@ use Rattle.mv_defs.specs.Facts.{Fact}
 use Rattle.mv_defs.specs.Rules.{longest_unit, above_three, short_unit, has_emulation, emulation, long_unit, unit_rules}
 use Rattle.mv_defs.specs.Verdict.{refusal_by, refused_leading}
 use Rattle.mv_defs.specs.Event.{early_rules, refusal_shown}
-use Rattle.mv_defs.proofs.Behind.{IsTrimmed, lead_all, pieces-behind, has_code-front, trimmed-append, trimmed-twice, trimmed-zeros}
+use Rattle.mv_defs.proofs.Behind.{IsTrimmed, lead_all, pieces-behind, has_code-front, trimmed-append, trimmed-twice}
 use Rattle.mv_defs.proofs.Early.{refused, early_of, early-is}
-use Rattle.mv_defs.proofs.Framed.{has_code-zero}
 use Rattle.mv_defs.proofs.Pieces.{pieces-clean}
 use Rattle.mv_defs.proofs.Shown.{open-clean, behind}
 use Rattle.mv_defs.proofs.Silent.{has_code-other, early-none, take-short}
 use Rattle.mv_bytestream.specs.Bytes.{IsQuiet, early_rule, ends_three}
-use Rattle.mv_bytestream.specs.Scan.{Scan, StandsFor, bytes_of}
-use Rattle.mv_bytestream.specs.Stages.{IsRunning, Takes, making_at, scan_of, unit_held, has_ended, waiting_at, refusal_at}
+use Rattle.mv_bytestream.specs.Scan.{Scan, StandsFor}
+use Rattle.mv_bytestream.specs.Stages.{IsRunning, Takes, making_at, scan_of, unit_held, has_ended, waiting_at, zeros_at, refusal_at}
 use Rattle.mv_bytestream.specs.declared.machine.Machine.{Machine}
 use Rattle.mv_bytestream.specs.declared.machine.Stage.{Stage}
 use Rattle.mv_bytestream.specs.declared.machine.Stage.TheVariants.{Leading, Making, Found, Given, Last, Ended, Refused}
-use Rattle.mv_bytestream.proofs.Closes.{runs-first, short-shown, closed-stands, making-is, making-quiet}
+use Rattle.mv_bytestream.proofs.Closes.{last-short, last-stands, none-stands, runs-first, short-shown, closed-stands, making-is, making-quiet}
 use Rattle.mv_bytestream.proofs.Emulates.{emulation-behind}
 use Rattle.mv_bytestream.proofs.Ends.{nonzero-last}
 use Rattle.mv_bytestream.proofs.Runs.{Runs, SomeRuns, running, runs, runs-stands, runs-zero, leading-shown, content-shown, runs-content, fact_at}
@@ -34,7 +33,7 @@ scan_at stage m = record {
   ended = has_ended stage;
   waiting = waiting_at stage (unit_held m);
   making = making_at stage (unit_held m) m.fed;
-  zeros = m.zeros;
+  zeros = zeros_at stage m.zeros;
   refusal = refusal_at stage;
 }
 
@@ -76,6 +75,7 @@ first-takes m n b here there fed given place none z one low s h = go (runs_at m 
         ∙ ap (λ x. running (m.fed + 1) m.given (Some (record { place = x; bytes = n.unit.items })) n.zeros) place
         ∙ ap (λ x. running (m.fed + 1) m.given (Some (record { place = m.fed + 1; bytes = x })) n.zeros) none
         ∙ ap (running (m.fed + 1) m.given (Some (record { place = m.fed + 1; bytes = [] }))) z
+
     go : SomeRuns s m.fed m.given None m.zeros → StandsFor (scan_of n) (s ++ b ∷ [])
     go ([], p, r) =
         subst (λ b. StandsFor (scan_of n) (s ++ b ∷ [])) (sym one)
@@ -181,7 +181,7 @@ unit-takes m n b here fits nonzero h shown there s stands = go (runs_at m (Some 
     go (c ∷ cs, p, r) =
         let parts = content m b s c cs p r nonzero h in
         let none : refusal_by early_rules (fact_at m.given m.place (p ++ b ∷ [])) ≡ None =
-            by-rule (fact_at m.given m.place (p ++ b ∷ [])) None (ap early_rule parts.0 ∙ sym (shown (is_quiet s c cs p m.fed m.given (unit_held m) m.zeros r fits))) in
+        by-rule (fact_at m.given m.place (p ++ b ∷ [])) None (ap early_rule parts.0 ∙ sym (shown (is_quiet s c cs p m.fed m.given (unit_held m) m.zeros r fits))) in
         stands_at n _ (s ++ b ∷ []) (there ∙ ap (λ w. running (m.fed + 1) m.given (Some (record { place = m.place; bytes = w })) 0) (sym parts.0))
         (runs-stands (s ++ b ∷ []) (c ∷ cs) (p ++ b ∷ []) (m.fed + 1) m.given _ 0 (runs-content s c cs p m.fed m.given (unit_held m) m.zeros (b ∷ []) r parts.1 parts.2 none))
 
@@ -215,19 +215,19 @@ run-takes m n w here none fits clean quiet ends three there s stands = go (runs_
         let u : List ℕ = m.unit.items in
         let q = is_quiet s c cs p m.fed m.given (unit_held m) m.zeros r (omega arith) in
         let whole : pieces (u ++ w) ≡ (u ++ w) ∷ [] =
-            pieces-behind u w q.ends (subst (λ p. has_code p ≡ false) same (open-clean s (c ∷ cs) p r.opened)) ∙ ap (lead_all u) (pieces-clean w clean) in
+        pieces-behind u w q.ends (subst (λ p. has_code p ≡ false) same (open-clean s (c ∷ cs) p r.opened)) ∙ ap (lead_all u) (pieces-clean w clean) in
         let short : length (u ++ w) ≤ longest_unit = omega (arith, length-append u w) in
         let none : refusal_by early_rules (fact_at m.given m.place (u ++ w)) ≡ None =
-            by-rule (fact_at m.given m.place (u ++ w)) None
-            (ap (λ e. cond e (Some Rule.Emulation) (cond (long_unit (u ++ w)) (Some Rule.Long) None))
-              (ap has_emulation (take-short longest_unit (u ++ w) short) ∙ emulation-behind u w q.ends q.quiet three ∙ quiet)
-            ∙ ap (λ l. cond l (Some Rule.Long) None) (le-ltb longest_unit (length (u ++ w)) short)) in
+        by-rule (fact_at m.given m.place (u ++ w)) None
+        (ap (λ e. cond e (Some Rule.Emulation) (cond (long_unit (u ++ w)) (Some Rule.Long) None))
+        (ap has_emulation (take-short longest_unit (u ++ w) short) ∙ emulation-behind u w q.ends q.quiet three ∙ quiet)
+        ∙ ap (λ l. cond l (Some Rule.Long) None) (le-ltb longest_unit (length (u ++ w)) short)) in
         stands_at n _ (s ++ w) (there ∙ ap (λ p. running (m.fed + length w) m.given (Some (record { place = m.place; bytes = p ++ w })) 0) (sym same))
         (runs-stands (s ++ w) (c ∷ cs) (p ++ w) (m.fed + length w) m.given _ 0
-          (runs-content s c cs p m.fed m.given (unit_held m) m.zeros w r
-            (subst (λ p. pieces (p ++ w) ≡ (p ++ w) ∷ []) (sym same) whole)
-            (subst (λ p. IsTrimmed (p ++ w)) (sym same) (trimmed-append u w q.ends ∙ ap (λ x. u ++ x) ends))
-            (subst (λ p. refusal_by early_rules (fact_at m.given m.place (p ++ w)) ≡ None) (sym same) none)))
+        (runs-content s c cs p m.fed m.given (unit_held m) m.zeros w r
+        (subst (λ p. pieces (p ++ w) ≡ (p ++ w) ∷ []) (sym same) whole)
+        (subst (λ p. IsTrimmed (p ++ w)) (sym same) (trimmed-append u w q.ends ∙ ap (λ x. u ++ x) ends))
+        (subst (λ p. refusal_by early_rules (fact_at m.given m.place (p ++ w)) ≡ None) (sym same) none)))
 
 pub nothing-takes : (m : Machine) → Takes m m [] None
 nothing-takes m s h = subst (StandsFor (scan_of m)) (sym (append-nil s)) h
@@ -240,10 +240,13 @@ code-takes m n b r here code value found = go (nat_lt (vec_len m.unit) 2) refl r
   where
     one : b ≡ 1
     one = eqb-true b 1 (and_parts (nat_eq b 1) (nat_le 2 m.zeros) code).0
+
     low : 2 ≤ m.zeros
     low = leb-true 2 m.zeros (and_parts (nat_eq b 1) (nat_le 2 m.zeros) code).1
+
     short : {t : Bool} → nat_lt (vec_len m.unit) 2 ≡ t → short_unit m.unit.items ≡ t
     short is = let same : length m.unit.items ≡ vec_len m.unit = omega (arith, m.unit.ok.0) in ap (λ n. nat_lt n 2) same ∙ is
+
     go : (t : Bool) → nat_lt (vec_len m.unit) 2 ≡ t → (r : Option Refusal) → r ≡ (if t then Some (record { unit = m.given; byte = m.place; rule = Rule.Short }) else None) →
         IfNone r (n ≡ record m { stage = Found; fed = m.fed + 1; zeros = 0 }) → Takes m n (b ∷ []) r
     go true is None value found = absurd (cc)
@@ -265,13 +268,16 @@ three-off u x bytes n t some ends same off = go bytes n some (nat_lt 3 (get_or b
   where
     is : t ≡ ends_three u
     is = ends ∙ ap ends_three same
+
     none : (e : Bool) → (e && false) ≡ false
     none true = refl
     none false = refl
+
     both : (a e : Bool) → (a && t) ≡ false → t ≡ e → (e && a) ≡ false
     both true true off is = absurd (true≢false (sym is ∙ off))
     both true false off is = refl
     both false e off is = none e
+
     go : (bytes : List ℕ) (n : ℕ) → 0 < n → (a : Bool) → nat_lt 3 (get_or bytes 0 0) ≡ a → (a && t) ≡ false → (ends_three u && above_three (take n bytes)) ≡ false
     go bytes zero some a first off = absurd (omega arith)
     go [] (suc n) some a first off = none (ends_three u)
@@ -298,3 +304,52 @@ run-view m n w count stage fed given place none items long =
     ∙ ap (λ x. running (m.fed + length w) m.given (Some (record { place = x; bytes = n.unit.items })) n.zeros) place
     ∙ ap (λ x. running (m.fed + length w) m.given (Some (record { place = m.place; bytes = x })) n.zeros) items
     ∙ ap (running (m.fed + length w) m.given (Some (record { place = m.place; bytes = m.unit.items ++ w }))) none
+
+-- the next unit begins where the one before was handed out
+pub resumes : (m n : Machine) → m.stage ≡ Given → n.stage ≡ Making → n.fed ≡ m.fed → n.given ≡ m.given → n.place ≡ m.fed → n.unit.items ≡ [] → n.zeros ≡ 0 → scan_of n ≡ scan_of m
+resumes m n here there fed given place none z =
+    at n Making there
+    ∙ ap (λ f. running f n.given (Some (unit_held n)) n.zeros) fed
+    ∙ ap (λ g. running m.fed g (Some (unit_held n)) n.zeros) given
+    ∙ ap (λ x. running m.fed m.given (Some (record { place = x; bytes = n.unit.items })) n.zeros) place
+    ∙ ap (λ x. running m.fed m.given (Some (record { place = m.fed; bytes = x })) n.zeros) none
+    ∙ ap (running m.fed m.given (Some (record { place = m.fed; bytes = [] }))) z
+    ∙ sym (at m Given here)
+
+-- the end of the input
+pub is_making : (stage : Stage) → IsRunning stage → ¬ (stage ≡ Leading) → stage ≡ Making
+is_making Leading run isnt = absurd (isnt refl)
+is_making Making run isnt = refl
+is_making Found run isnt = absurd run
+is_making Given run isnt = absurd run
+is_making Last run isnt = absurd run
+is_making Ended run isnt = absurd run
+is_making (Refused r) run isnt = absurd run
+
+pub ends-none : (m n : Machine) → m.stage ≡ Leading → n ≡ record m { stage = Ended } → (s : List ℕ) → StandsFor (scan_of m) s → StandsFor (scan_of n) s
+ends-none m n here there s stands = go (runs_at m None s (at m Leading here) stands)
+  where
+    go : SomeRuns s m.fed m.given None m.zeros → StandsFor (scan_of n) s
+    go ([], p, r) = stands_at n _ s (ap scan_of there) (none-stands s p m.fed m.given m.zeros m.zeros r)
+    go (c ∷ cs, p, r) = absurd (no_unit s c cs p m.fed m.given m.zeros r)
+
+pub ends-short : (m : Machine) → m.stage ≡ Making → short_unit m.unit.items ≡ true → (s : List ℕ) → StandsFor (scan_of m) s → refusal_shown unit_rules true s ≡ Some (record { unit = m.given; byte = m.place; rule = Rule.Short })
+ends-short m here short s stands = go (runs_at m (Some (unit_held m)) s (at m Making here) stands)
+  where
+    go : SomeRuns s m.fed m.given (Some (unit_held m)) m.zeros → refusal_shown unit_rules true s ≡ Some (record { unit = m.given; byte = m.place; rule = Rule.Short })
+    go ([], p, r) = absurd (some_unit s p m.fed m.given m.zeros (unit_held m) r)
+    go (c ∷ cs, p, r) = last-short s c cs p m.fed m.given (unit_held m) m.zeros r short
+
+pub ends-last : (m n : Machine) → m.stage ≡ Making → n ≡ record m { stage = Last } → short_unit m.unit.items ≡ false → (s : List ℕ) → StandsFor (scan_of m) s → StandsFor (scan_of n) s
+ends-last m n here there long s stands = go (runs_at m (Some (unit_held m)) s (at m Making here) stands)
+  where
+    go : SomeRuns s m.fed m.given (Some (unit_held m)) m.zeros → StandsFor (scan_of n) s
+    go ([], p, r) = absurd (some_unit s p m.fed m.given m.zeros (unit_held m) r)
+    go (c ∷ cs, p, r) = stands_at n _ s (ap scan_of there) (last-stands s c cs p m.fed m.given (unit_held m) m.zeros m.zeros r long)
+
+-- a unit of few bytes, or of enough
+pub few-short : (m : Machine) → vec_len m.unit < 2 → short_unit m.unit.items ≡ true
+few-short m low = lt-ltb (length m.unit.items) 2 (omega (arith, m.unit.ok.0))
+
+pub many-long : (m : Machine) → 2 ≤ vec_len m.unit → short_unit m.unit.items ≡ false
+many-long m low = le-ltb (length m.unit.items) 2 (omega (arith, m.unit.ok.0))

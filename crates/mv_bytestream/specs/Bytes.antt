@@ -1,5 +1,5 @@
 -- What a byte, or a run of bytes, shows behind a unit in the making.
-use Rattle.std.specs.Prelude.{◌≡◌, ℕ, ◌-◌, ◌≤◌, Bool, false, cond, ◌==◌, ◌&&◌, nat_le, List, length, slice_index, Option, None, Some}
+use Rattle.std.specs.Prelude.{◌≡◌, ℕ, ◌-◌, Bool, false, cond, ◌==◌, ◌&&◌, nat_le, List, length, slice_index, Option, None, Some}
 use Rattle.mv_io.specs.declared.rule.Rule.{Rule}
 use Rattle.mv_defs.specs.Units.{trimmed}
 use Rattle.mv_defs.specs.Rules.{has_emulation, emulation, long_unit}

@@ -28,6 +28,12 @@ making_at Found unit fed = Some (record { place = fed; bytes = [] })
 making_at Given unit fed = Some (record { place = fed; bytes = [] })
 making_at stage unit fed = None
 
+-- the zero bytes behind it: none behind a unit that is finished
+abbrev pub zeros_at : Stage → ℕ → ℕ
+zeros_at Found zeros = 0
+zeros_at Given zeros = 0
+zeros_at stage zeros = zeros
+
 -- the refusal
 abbrev pub refusal_at : Stage → Option Refusal
 refusal_at (Refused refusal) = Some refusal
@@ -45,7 +51,7 @@ scan_of m = record {
   ended = has_ended m.stage;
   waiting = waiting_at m.stage (unit_held m);
   making = making_at m.stage (unit_held m) m.fed;
-  zeros = m.zeros;
+  zeros = zeros_at m.stage m.zeros;
   refusal = refusal_at m.stage;
 }
 
@@ -54,6 +60,11 @@ abbrev pub IsRunning : Stage → Type 0
 IsRunning Leading = ⊤
 IsRunning Making = ⊤
 IsRunning stage = ⊥
+
+-- the same, where the unit before may have been handed out
+abbrev pub IsOpen : Stage → Type 0
+IsOpen Given = ⊤
+IsOpen stage = IsRunning stage
 
 -- how many units a machine will hand out beside those given, without a byte more
 abbrev pub in_hand : Stage → ℕ

@@ -3,6 +3,7 @@
 
 use crate::making::{LONGEST_UNIT, append, ends_in_three, rule_shown, run_length};
 use mv_io::{Refusal, Rule};
+use std::alloc::AllocError;
 
 // Where in a byte stream a scanner is.
 #[derive(Clone, Copy, PartialEq, Eq, Debug)]
@@ -38,10 +39,13 @@ pub struct Machine {
 }
 
 impl Machine {
-    ghost use Rattle.std.specs.Prelude.{◌≡◌, ◌+◌, ◌<◌, ◌≤◌, ◌^◌, ◌++◌, ◌∷◌, ◌⊎◌, [], ℕ, None, Some, length, take, nat_lt, vec_len, vec_capacity, IfNone, IfSome, if◌then◌else◌};
+    ghost use Rattle.std.specs.Prelude.{◌≡◌, ◌+◌, ◌<◌, ◌≤◌, ◌^◌, ◌++◌, ◌∷◌, ◌⊎◌, [], ℕ, None, Some, length, take, nat_lt, vec_len, vec_capacity, IfErr, IfNone, IfOk, IfSome, List, OnOk, true, if◌then◌else◌};
+    ghost use Rattle.mv_defs.specs.Event.{refusal_shown};
+    ghost use Rattle.mv_defs.specs.Rules.{unit_rules};
+    ghost use Rattle.mv_bytestream.specs.Scan.{ShowsAt, StandsFor, TakesToUnit, handed_out};
     ghost use Rattle.mv_io.specs.declared.rule.Rule.{Rule};
     ghost use Rattle.mv_bytestream.specs.declared.machine.Stage.{Stage};
-    ghost use Rattle.mv_bytestream.specs.Stages.{HasRoom, IsHeld, IsRunning, Takes, scan_of};
+    ghost use Rattle.mv_bytestream.specs.Stages.{HasRoom, IsHeld, IsOpen, IsRunning, Takes, scan_of, unit_held};
 
     // Takes a byte before the first start code, or the last byte of that, and says which refusal it shows.
     pub fn leading_byte(&mut self, byte: u8) -> Option<Refusal>
@@ -101,6 +105,111 @@ impl Machine {
                 None
             }
         }
+    }
+
+    // Begins the next unit behind one that was handed out. To callers nothing changes.
+    pub fn resume(&mut self)
+        requires running { IsOpen self.old.stage }
+        requires held { IsHeld self.old }
+        ensures running { IsRunning self.new.stage }
+        ensures same { scan_of self.new ≡ scan_of self.old }
+        ensures held { IsHeld self.new }
+    {
+        if let Stage::Given = self.stage {
+            self.begin_unit();
+        }
+    }
+
+    // Hands out the unit that waits, and says whether one did.
+    pub fn hand_out(&mut self) -> bool
+        requires held { IsHeld self.old }
+        ensures waiting { (scan_of self.old).waiting ≡ (if result then Some (unit_held self.new) else None) }
+        ensures handed { scan_of self.new ≡ handed_out (scan_of self.old) }
+        ensures held { IsHeld self.new }
+    {
+        match self.stage {
+            Stage::Found => {
+                self.stage = Stage::Given;
+                self.given += 1;
+                true
+            }
+            Stage::Last => {
+                self.stage = Stage::Ended;
+                self.given += 1;
+                true
+            }
+            _ => false,
+        }
+    }
+
+    // Makes room for bytes of the unit. To callers nothing changes.
+    pub fn make_room(&mut self, count: usize) -> Result<(), AllocError>
+        requires running { IsRunning self.old.stage }
+        requires held { IsHeld self.old }
+        ensures room { OnOk result (HasRoom self.new count) }
+        ensures running { IsRunning self.new.stage }
+        ensures same { scan_of self.new ≡ scan_of self.old }
+        ensures held { IsHeld self.new }
+    {
+        let most = LONGEST_UNIT - self.unit.len();
+        let zeros = self.zeros.min(2) as usize;
+        self.unit.reserve(count.saturating_add(zeros).min(most))
+    }
+
+    // Ends the input, and says which refusal that shows.
+    pub fn finish(&mut self) -> Option<Refusal>
+        requires running { IsRunning self.old.stage }
+        requires held { IsHeld self.old }
+        ensures stands { IfNone result ((s : List ℕ) → StandsFor (scan_of self.old) s → StandsFor (scan_of self.new) s) }
+        ensures shown { IfSome result (λ r. (s : List ℕ) → StandsFor (scan_of self.old) s → refusal_shown unit_rules true s ≡ Some r) }
+        ensures ended { IfNone result ((scan_of self.new).ended ≡ true) }
+        ensures held { IsHeld self.new }
+        ensures fed { self.new.fed ≡ self.old.fed }
+        ensures given { self.new.given ≡ self.old.given }
+    {
+        match self.stage {
+            Stage::Leading => {
+                self.stage = Stage::Ended;
+                None
+            }
+            _ if self.unit.len() < 2 => Some(self.refusal(Rule::Short)),
+            _ => {
+                self.stage = Stage::Last;
+                None
+            }
+        }
+    }
+
+    // Takes the piece's bytes up to and including the first that ends a unit or shows a refusal, or all where
+    // none does, and says how many, or the refusal.
+    pub fn take_piece(&mut self, piece: &[u8]) -> Result<usize, Refusal>
+        requires running { IsRunning self.old.stage }
+        requires held { IsHeld self.old }
+        requires room { HasRoom self.old (length piece.now) }
+        requires countable { self.old.fed + length piece.now < 2 ^ 64 }
+        ensures stands { IfOk result (λ n. (s : List ℕ) → StandsFor (scan_of self.old) s → StandsFor (scan_of self.new) (s ++ take n piece.now)) }
+        ensures takes { IfOk result (λ n. (s : List ℕ) → StandsFor (scan_of self.old) s → TakesToUnit s piece.now n) }
+        ensures refused { IfErr result (λ r. (s : List ℕ) → StandsFor (scan_of self.old) s → (n : ℕ) × ShowsAt s piece.now r n) }
+        ensures held { IsHeld self.new }
+        ensures stage { OnOk result (IsRunning self.new.stage ⊎ (self.new.stage ≡ Stage.Found)) }
+        ensures fed { self.new.fed ≤ self.old.fed + length piece.now }
+        ensures given { self.new.given ≡ self.old.given }
+    {
+        let mut at = 0;
+        while at < piece.len() {
+            at += self.run(&piece[at..]);
+            if at == piece.len() {
+                return Ok(at);
+            }
+            match self.byte(piece[at]) {
+                Some(refusal) => return Err(refusal),
+                None => at += 1,
+            }
+            if let Stage::Found = self.stage {
+                return Ok(at);
+            }
+        }
+        Ok(at)
     }
 
     // Takes a byte where nothing waits, and says which refusal it shows.

@@ -64,7 +64,8 @@ pub fn append(unit: &mut Vec<u8>, zeros: u64, byte: u8)
     ensures len { vec_len unit.new ≡ vec_len unit.old + zeros + 1 }
     ensures capacity { vec_capacity unit.old ≤ vec_capacity unit.new }
 {
-    unit.extend_from_slice(&TWO_ZEROS[..zeros as usize]).unwrap();
+    unit.extend_from_slice(&TWO_ZEROS[..zeros as usize])
+        .unwrap();
     unit.push_reserved(byte);
 }
 

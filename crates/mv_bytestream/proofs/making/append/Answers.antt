@@ -1,4 +1,4 @@
-use Rattle.std.proofs.Common.{◌≡◌, ◌++◌, ◌∷◌, [], ℕ, List, sym, ◌∙◌, ap, append_assoc, arith}
+use Rattle.std.proofs.Common.{◌++◌, ◌∷◌, [], ◌∙◌, ap, append_assoc, arith}
 use Rattle.mv_bytestream.proofs.Ends.{taken-zeros, ok-items}
 use Rattle.mv_bytestream.proofs.making.append.Goals as goal
 

@@ -1,4 +1,4 @@
-use Rattle.std.proofs.Common.{None, Some, ◌+◌, ◌≤◌, ℕ, List, length, sym, ap, ◌∙◌, arith}
+use Rattle.std.proofs.Common.{None, Some, ◌+◌, ◌≤◌, length, sym, ap, ◌∙◌, arith}
 use Rattle.mv_defs.specs.Rules.{longest_unit}
 use Rattle.mv_bytestream.specs.Stages.{unit_held}
 use Rattle.mv_bytestream.specs.declared.machine.Stage.TheVariants.{Making}
@@ -20,8 +20,8 @@ returns-in-Some-clause-takes c =
     let m = c.args.self.now in
     let fits : length m.unit.items ≤ longest_unit = omega (arith, m.unit.ok.0, c.requires.held.most) in
     λ s h.
-      unit-refuses m m c.args.byte c.in-Some.rule c.requires.stage fits c.if-byte-eq0.false c.if-byte-self.false (shown-as m c.args.byte (Some c.in-Some.rule) c.deref.result.now c.deref.ensures.value c.in-Some.ensures.rule) s h
-      ∙ ap Some (sym c.refusal.ensures.value)
+    unit-refuses m m c.args.byte c.in-Some.rule c.requires.stage fits c.if-byte-eq0.false c.if-byte-self.false (shown-as m c.args.byte (Some c.in-Some.rule) c.deref.result.now c.deref.ensures.value c.in-Some.ensures.rule) s h
+    ∙ ap Some (sym c.refusal.ensures.value)
 
 pub returns-in-None-clause-takes : goal.returns-in-None-clause-takes
 returns-in-None-clause-takes c =

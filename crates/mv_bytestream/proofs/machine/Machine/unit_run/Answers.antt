@@ -1,4 +1,4 @@
-use Rattle.std.proofs.Common.{◌≡◌, ◌<◌, ◌≤◌, ◌+◌, ◌-◌, None, Some, false, ℕ, List, length, take, min, sym, ap, ◌∙◌, refl, subst, arith}
+use Rattle.std.proofs.Common.{◌≡◌, ◌≤◌, ◌+◌, ◌-◌, false, ℕ, List, length, take, refl, subst, arith}
 use Rattle.std.proofs.lemmas.List.{length-take, length-take-le}
 use Rattle.mv_defs.specs.Units.{has_code, trimmed}
 use Rattle.mv_defs.specs.Rules.{has_emulation, longest_unit}
@@ -23,4 +23,4 @@ returns-clause-takes c =
     (subst (λ w. trimmed w ≡ w) same c.run_length-count.ensures.ends)
     (three-off m.unit.items c.deref.result.now bytes count c.ends_in_three.result (omega arith) c.ends_in_three.ensures c.deref.ensures.value c.if-bytes-ends_in_three.false)
     (run-view m (record m { fed = m.fed + count; unit = c.extend_from_slice.new.self }) (take count bytes) count c.requires.stage refl refl refl c.requires.none
-      (ok-items c.extend_from_slice.result _ _ _ (c.extend_from_slice.ensures.succeeds (omega (arith, c.requires.room, long, room))) c.extend_from_slice.ensures.items) long)
+    (ok-items c.extend_from_slice.result _ _ _ (c.extend_from_slice.ensures.succeeds (omega (arith, c.requires.room, long, room))) c.extend_from_slice.ensures.items) long)
