@@ -1,1 +1,4 @@
+pub mod Found
+pub mod Scan
 pub mod Spans
+pub mod Stages

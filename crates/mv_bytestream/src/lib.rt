@@ -4,6 +4,8 @@
 
 mod framing;
 mod heads;
+mod machine;
+mod scanner;
 mod splitting;
 #[cfg(test)]
 mod tests;
@@ -11,4 +13,5 @@ mod tests;
 pub use framing::frame;
 pub use heads::read_head;
 pub use mv_defs::UnitHead;
+pub use scanner::{Found, Scanner};
 pub use splitting::{ScanFault, Span, split};
