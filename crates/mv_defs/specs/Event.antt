@@ -4,7 +4,7 @@ use Rattle.std.specs.Option.{option_map, option_or, option_and_then}
 use Rattle.mv_io.specs.declared.rule.Rule.{Rule}
 use Rattle.mv_io.specs.declared.refusal.Refusal.{Refusal}
 use Rattle.mv_defs.specs.Units.{NalUnit, units, leading}
-use Rattle.mv_defs.specs.Facts.{Fact, facts}
+use Rattle.mv_defs.specs.Facts.{facts}
 use Rattle.mv_defs.specs.Rules.{rules}
 use Rattle.mv_defs.specs.Verdict.{refusal_by, verdict_by, verdict_of, refused_leading}
 
