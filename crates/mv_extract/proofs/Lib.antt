@@ -1,0 +1,4 @@
+pub mod Counts
+pub mod Fed
+pub mod Handed
+pub mod UnitSteps

@@ -60,13 +60,26 @@ pub record CanFeed (now : Option (List ℕ)) (scan : Scan) (number most : ℕ) :
   pub idle : Idle start now scan number bytes
   pub countable : length bytes + most < 2 ^ 64
 
+-- the sink gained a first part of these bytes, or all of them
+pub record GainsPart (start new : Option (List ℕ)) (bytes : List ℕ) : Type 0 where
+  pub part : List ℕ
+  pub more : List ℕ
+  pub parts : bytes ≡ part ++ more
+  pub writes : Appends start new part
+
+-- a refusal that the bytes taken show, of a unit that was taken whole or the one behind those, with what was written
+pub record LeavesRefused (start new : Option (List ℕ)) (ended : Bool) (taken : List ℕ) (r : Refusal) : Type 0 where
+  pub shows : refusal_shown rules ended taken ≡ Some r
+  pub within : r.unit ≤ length (whole_units ended taken)
+  pub writes : Appends start new (text_before r taken)
+
 -- what an answer other than Ok leaves on the sink behind the bytes `taken`; `ended` says whether they are all
 abbrev pub Leaves : Option (List ℕ) → Option (List ℕ) → Bool → List ℕ → ExtractError → Type 0
-Leaves start new ended taken (Refused r) = (refusal_shown rules ended taken ≡ Some r) × Appends start new (text_before r taken)
+Leaves start new ended taken (Refused r) = LeavesRefused start new ended taken r
 Leaves start new ended taken Read = ⊥
 Leaves start new ended taken Write = AppendsPrefix start new (text_taken ended taken)
 Leaves start new ended taken TooLong = ⊥
-Leaves start new ended taken Memory = (count : ℕ) × Appends start new (take count (text_taken ended taken))
+Leaves start new ended taken Memory = GainsPart start new (text_taken ended taken)
 
 -- each answer once the unit that waits, if one does, was handed out
 abbrev pub HandlesUnit : Option (List ℕ) → Option (List ℕ) → Scan → Scan → ℕ → List ℕ → Result ⊤ ExtractError → Type 0
