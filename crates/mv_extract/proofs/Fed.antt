@@ -255,6 +255,12 @@ countable-rest scan s piece at stands within countable =
 pub Rose-earlier : (a b c : ℕ) → a ≤ b → Rose b c → Rose a c
 Rose-earlier a b c h rose = omega (arith, rose)
 
+pub cause-after : {T : Type 0} (a b c : ℕ) (answer : Result T ExtractError) → a ≤ b → SinkCause b c answer → SinkCause a c answer
+cause-after a b c answer h cause = record {
+  never_falls = let falls = cause.never_falls in omega arith;
+  rose = λ e. Rose-earlier a b c h (cause.rose e);
+}
+
 pub cause-later : {T U : Type 0} (a b c : ℕ) (error : ExtractError) → a ≤ b → SinkCause {T = T} b c (Err error) → SinkCause {T = U} a c (Err error)
 cause-later a b c error h cause = record {
   never_falls = let falls = cause.never_falls in omega arith;

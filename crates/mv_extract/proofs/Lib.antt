@@ -1,4 +1,7 @@
 pub mod Counts
+pub mod Endings
 pub mod Fed
 pub mod Handed
+pub mod Settled
+pub mod Taking
 pub mod UnitSteps
