@@ -169,3 +169,7 @@ Extends-ended before i count word started mid new xs old other last next h k out
     ∙ ap (λ b. b ++ u_bits count word) (h.written ∙ ap (λ b. old ++ byte_bits b) (take_all i xs outside))
     ∙ append_assoc old (byte_bits xs) (u_bits count word)
     ∙ ap (λ b. old ++ b) same
+
+-- ---- whole bytes
+pub whole_after : (old more new : List Bool) → new ≡ old ++ more → (length old + length more) % 8 ≡ 0 → length new % 8 ≡ 0
+whole_after old more new e h = ap (λ b. length b % 8) e ∙ ap (λ n. n % 8) (length-append old more) ∙ h

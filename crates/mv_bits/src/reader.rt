@@ -1,4 +1,4 @@
-ghost use Rattle.std.specs.Prelude.{◌≡◌, ◌≢◌, ◌≤◌, ◌<◌, ◌^◌, ◌%◌, ◌+◌, ◌-◌, ◌↔◌, IsTrue, IfOk, OnOk, OnErr, length, [], Err, negsuc, ◌<ℤ◌, not, ◌==◌, MatchOption, MatchResult};
+ghost use Rattle.std.specs.Prelude.{◌≡◌, ◌≢◌, ◌≤◌, ◌<◌, ◌^◌, ◌%◌, ◌+◌, ◌-◌, ◌*◌, ◌↔◌, IsTrue, IfOk, OnOk, OnErr, length, [], Err, negsuc, ◌<ℤ◌, not, ◌==◌, MatchOption, MatchResult};
 ghost use Rattle.std.specs.List.{list_any};
 ghost use Rattle.mv_syntax.specs.Bits.{short, kept, take_bits, take_ue, take_se, trailing_bits, se_value, has_one, more_data, byte_bits};
 ghost use Rattle.mv_bits.specs.Cursor.{Cursor, place, Takes, window_bits, IsWindow};
@@ -33,7 +33,7 @@ impl<'a> Model for BitReader<'a> {
 impl<'a> BitReader<'a> {
     /// A reader at the first bit of the bytes.
     pub fn new(bytes: &'a [u8]) -> BitReader<'a>
-        ensures whole { result.total ≡ length (byte_bits bytes.now) }
+        ensures whole { result.total ≡ 8 * length bytes.now }
         ensures all { result.left ≡ byte_bits bytes.now }
     {
         BitReader {

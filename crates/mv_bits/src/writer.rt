@@ -83,6 +83,7 @@ impl BitWriter {
     /// Appends `bit` up to the end of the byte, and nothing where a byte ends.
     pub fn align(&mut self, bit: bool) -> Result<(), AllocError>
         ensures ok { OnOk result (self.new ≡ self.old ++ align_bits bit (length self.old)) }
+        ensures whole { OnOk result (length self.new % 8 ≡ 0) }
         ensures err { OnErr result (self.new ≡ self.old) }
     {
         let n = (8 - self.count) % 8;
@@ -93,6 +94,7 @@ impl BitWriter {
     /// Appends the trailing bits, rbsp_trailing_bits() (7.3.2.11): a one, and zeros up to the end of the byte.
     pub fn trailing(&mut self) -> Result<(), AllocError>
         ensures ok { OnOk result (self.new ≡ self.old ++ trailing_bits (length self.old)) }
+        ensures whole { OnOk result (length self.new % 8 ≡ 0) }
         ensures err { OnErr result (self.new ≡ self.old) }
     {
         let zeros = 7 - self.count;

@@ -1,5 +1,5 @@
 -- What the units that were tried so far say of the whole stream.
-use Rattle.std.proofs.Common.{◌≡◌, ℕ, ◌+◌, ◌-◌, ◌<◌, ◌≤◌, ◌==◌, Bool, true, false, cond, List, [], ◌∷◌, ◌++◌, take, drop, length, get_or, filter, map, Option, None, Some, Result, Ok, Err, refl, ap, sym, ◌∙◌, subst, arith, if◌then◌else◌, append-nil, zero, suc, length-append}
+use Rattle.std.proofs.Common.{◌≡◌, ℕ, ◌+◌, ◌-◌, ◌<◌, ◌≤◌, ◌==◌, Bool, true, false, cond, List, [], ◌∷◌, ◌++◌, take, drop, length, get_or, filter, map, Option, None, Some, Result, Ok, Err, refl, ap, sym, ◌∙◌, subst, arith, if◌then◌else◌, append-nil, length-append}
 use Rattle.std.proofs.lemmas.Bool.{eqb-true}
 use Rattle.std.specs.List.{filter_map, cons_option}
 use Rattle.std.specs.Option.{option_map, option_or}
@@ -72,9 +72,9 @@ unfolding facts_behind
 later before [] r h = absurd (cc)
 later before (u ∷ us) r h =
     first_in (refusal_of (fact before u)) (filter_map refusal_of (facts_behind (before ++ u ∷ []) us)) (length before) r
-        (λ q e. number_in _ (length before) u.place q e)
-        (λ e. let rest = later (before ++ u ∷ []) us r e in more rest)
-        h
+    (λ q e. number_in _ (length before) u.place q e)
+    (λ e. let rest = later (before ++ u ∷ []) us r e in more rest)
+    h
   where
     more : length (before ++ u ∷ []) ≤ r.unit → length before ≤ r.unit
     more h = omega (arith, length-append before (u ∷ []))
@@ -95,12 +95,14 @@ after us vs r none e = later us vs r (sym same ∙ e)
 -- the text of some units begins that of more
 front : (us vs : List NalUnit) → (more : List ℕ) × (frame (extract (us ++ vs)) ≡ frame (extract us) ++ more)
 front us vs =
-    let rest = map (λ (f : Fact). f.unit.bytes) (filter kept (facts_behind us vs)) in
-    (frame rest, ap frame
-        (ap (λ fs. map (λ (f : Fact). f.unit.bytes) (filter kept fs)) (facts-append us vs)
-        ∙ ap (map (λ (f : Fact). f.unit.bytes)) (filter-append kept (facts us) (facts_behind us vs))
-        ∙ map-append (λ (f : Fact). f.unit.bytes) (filter kept (facts us)) (filter kept (facts_behind us vs)))
-    ∙ frame-append (extract us) rest)
+    let rest = map (λ (f : Fact). f.unit.bytes) (filter kept (facts_behind us vs)) in (
+      frame rest,
+      ap frame
+          (ap (λ fs. map (λ (f : Fact). f.unit.bytes) (filter kept fs)) (facts-append us vs)
+          ∙ ap (map (λ (f : Fact). f.unit.bytes)) (filter-append kept (facts us) (facts_behind us vs))
+          ∙ map-append (λ (f : Fact). f.unit.bytes) (filter kept (facts us)) (filter kept (facts_behind us vs)))
+          ∙ frame-append (extract us) rest,
+    )
 
 -- where the leading bytes are accepted, the verdict is that on the units
 pub verdict-units : (s : List ℕ) → leading s ≡ None → verdict_of s ≡ verdict (units s)
@@ -119,7 +121,7 @@ begins us k s (Some r) same e none =
     let unit : length (take k us) + m ≡ r.unit = omega arith in
     let found = front (take k us) (take m (drop k us)) in
     let split : take r.unit us ≡ take k us ++ take m (drop k us) =
-        ap (λ n. take n us) (sym unit) ∙ ap (take (length (take k us) + m)) (sym parts) ∙ take-append-add (take k us) (drop k us) m in
+    ap (λ n. take n us) (sym unit) ∙ ap (take (length (take k us) + m)) (sym parts) ∙ take-append-add (take k us) (drop k us) m in
     (found.0, ap (λ xs. frame (extract (take r.unit xs))) same ∙ ap (λ xs. frame (extract xs)) split ∙ found.1)
 
 -- a unit that was tried and is kept, or isn't
@@ -160,7 +162,7 @@ written-failed old mid new s i u h lead more none e base first next =
     let accepted : verdict (take (i + 1) (units s)) ≡ None = ap verdict more ∙ verdict-more (take i (units s)) u h none e in
     let whole = begins (units s) (i + 1) s (verdict_of s) refl (verdict-units s lead) accepted in
     let text : frame (extract (take (i + 1) (units s))) ≡ frame (extract (take i (units s))) ++ frame (u.bytes ∷ []) =
-        ap (λ xs. frame (extract xs)) more ∙ text-kept (take i (units s)) u h e base in
+    ap (λ xs. frame (extract xs)) more ∙ text-kept (take i (units s)) u h e base in
     subst (AppendsPrefix old new) (sym whole.1)
     (AppendsPrefix-first old new (frame (extract (take (i + 1) (units s)))) whole.0
     (subst (AppendsPrefix old new) (sym text) (AppendsPrefix-then old mid new _ _ first next)))
@@ -171,9 +173,9 @@ verdict-failed s i u rule lead inside more none e =
     let us = units s in
     let number : length (take i us) ≡ i = length-take-le i us (let h : i < length us = inside in omega arith) in
     let here : verdict (take (i + 1) us) ≡ Some (record { unit = i; byte = u.place; rule = rule }) =
-        ap verdict more ∙ verdict-push (take i us) u ∙ ap (λ v. option_or v (refusal_of (fact (take i us) u))) none
-        ∙ refusal-failed (fact (take i us) u) rule e
-        ∙ ap (λ n. Some (let q : Refusal = record { unit = n; byte = u.place; rule = rule } in q)) number in
+    ap verdict more ∙ verdict-push (take i us) u ∙ ap (λ v. option_or v (refusal_of (fact (take i us) u))) none
+    ∙ refusal-failed (fact (take i us) u) rule e
+    ∙ ap (λ n. Some (let q : Refusal = record { unit = n; byte = u.place; rule = rule } in q)) number in
     verdict-units s lead ∙ ap verdict (sym (take-append-drop (i + 1) us)) ∙ verdict-stays (take (i + 1) us) (drop (i + 1) us) _ here
 
 -- before the first unit, and behind the last

@@ -1,10 +1,9 @@
 -- The answers of extraction, from what reading, splitting and writing gave.
-use Rattle.std.proofs.Common.{◌≡◌, ℕ, ◌+◌, ◌<◌, ◌≤◌, ◌⊎◌, inl, inr, Bool, true, false, nat_lt, List, [], ◌∷◌, ◌++◌, take, length, Option, None, Some, Result, Ok, Err, refl, ap, sym, ◌∙◌, subst, arith, IfSome, append-nil, length-append, if◌then◌else◌}
+use Rattle.std.proofs.Common.{◌≡◌, ℕ, ◌<◌, ◌≤◌, ◌⊎◌, inl, inr, true, false, nat_lt, List, [], ◌∷◌, ◌++◌, take, length, Option, None, Some, Result, Ok, Err, refl, ap, sym, ◌∙◌, subst, arith, IfSome, append-nil, length-append, if◌then◌else◌}
 use Rattle.std.specs.Prelude.{⊤, IsSomeAnd}
 use Rattle.std.proofs.lemmas.Bool.{le-ltb, lt-ltb}
 use Rattle.mv_io.specs.declared.refusal.Refusal.{Refusal}
-use Rattle.mv_io.specs.Faults.{Rose}
-use Rattle.mv_io.specs.Sink.{Appends, AppendsPrefix}
+use Rattle.mv_io.specs.Sink.{Appends}
 use Rattle.mv_io.specs.Source.{Told, Takes}
 use Rattle.mv_io.proofs.Appends.{Appends-nothing}
 use Rattle.mv_defs.specs.Units.{units, leading}
@@ -15,50 +14,49 @@ use Rattle.mv_bytestream.specs.declared.splitting.ScanFault.TheVariants.{Refused
 use Rattle.mv_bytestream.specs.Spans.{RefusesLeading}
 use Rattle.mv_extract.specs.declared.error.ExtractError.{ExtractError}
 use Rattle.mv_extract.specs.declared.error.ExtractError.TheVariants.{Refused, Read, Write, TooLong, Memory}
-use Rattle.mv_extract.specs.Call.{Input, Output, input_of, output_of, Took, AtEnd, InputRose, OutputRose}
-use Rattle.mv_extract.specs.Reading.{ReadsAll, ReadsSome, Reads}
+use Rattle.mv_extract.specs.Call.{Input, Output, output_of, AtEnd}
+use Rattle.mv_extract.specs.Reading.{ReadsAll, Reads}
 use Rattle.mv_extract.specs.Keeping.{Keeps}
-use Rattle.mv_extract.specs.Text.{text, text_before, text_of_all}
-use Rattle.mv_extract.specs.Answers.{Accepts, Refuses, ReadFails, WriteFails, TooLongs, MemoryEnds, Answers, Settles, due, answer_by}
+use Rattle.mv_extract.specs.Answers.{Refuses, MemoryEnds, Answers, Settles, due, answer_by}
 use Rattle.mv_extract.proofs.Tried.{written-nothing}
 
 -- the input wasn't read to its end, and nothing was written
 pub reading-failed : (limit : ℕ) (input : Input) (taken : Option (List ℕ)) (f : ℕ) (error : ExtractError) → Reads limit input (Err error) → Answers limit input (output_of taken taken f f) (Err error)
 reading-failed limit input taken f (Refused refusal) fails = absurd fails
 reading-failed limit input taken f Read fails = record {
-    taken = fails.0.taken;
-    took = fails.0.took;
-    within = fails.0.within;
-    rose = fails.1;
-    writes = Appends-nothing taken;
-  }
+  taken = fails.0.taken;
+  took = fails.0.took;
+  within = fails.0.within;
+  rose = fails.1;
+  writes = Appends-nothing taken;
+}
 reading-failed limit input taken f Write fails = absurd fails
 reading-failed limit input taken f TooLong fails = record {
-    taken = fails.taken;
-    extra = fails.extra;
-    took = fails.took;
-    limit_reached = fails.limit_reached;
-    writes = Appends-nothing taken;
-  }
+  taken = fails.taken;
+  extra = fails.extra;
+  took = fails.took;
+  limit_reached = fails.limit_reached;
+  writes = Appends-nothing taken;
+}
 reading-failed limit input taken f Memory fails = record {
-    taken = fails.taken;
-    ended = false;
-    took = fails.took;
-    within = fails.within;
-    count = 0;
-    writes = Appends-nothing taken;
-  }
+  taken = fails.taken;
+  ended = false;
+  took = fails.took;
+  within = fails.within;
+  count = 0;
+  writes = Appends-nothing taken;
+}
 
 -- memory was wanting behind the whole input
 pub splitting-ended : (limit : ℕ) (input : Input) (taken : Option (List ℕ)) (f : ℕ) (bytes : List ℕ) → ReadsAll limit input bytes → MemoryEnds limit input (output_of taken taken f f)
 splitting-ended limit input taken f bytes all = record {
-    taken = bytes;
-    ended = true;
-    took = all.took;
-    within = all.within;
-    count = 0;
-    writes = Appends-nothing taken;
-  }
+  taken = bytes;
+  ended = true;
+  took = all.took;
+  within = all.within;
+  count = 0;
+  writes = Appends-nothing taken;
+}
 
 -- a leading byte was refused
 leading_refused : (o : Option ℕ) (v : Option Refusal) (refusal : Refusal) → IsSomeAnd o (λ at. refusal ≡ refused_leading at) → (elim o as (λ x. Option Refusal) [ Some at ↦ Some (refused_leading at) | None ↦ v ]) ≡ Some refusal
@@ -71,40 +69,40 @@ leading_unit (Some at) refusal h = ap (λ (r : Refusal). r.unit) h
 
 pub leading-refused : (limit : ℕ) (input : Input) (taken : Option (List ℕ)) (f : ℕ) (bytes : List ℕ) (refusal : Refusal) → ReadsAll limit input bytes → RefusesLeading bytes (ScanRefused refusal) → Refuses limit input (output_of taken taken f f) refusal
 leading-refused limit input taken f bytes refusal all refuses = record {
-    taken = bytes;
-    ended = true;
-    took = all.took;
-    within = all.within;
-    shows = (refl, leading_refused (leading bytes) (verdict (units bytes)) refusal refuses);
-    writes = subst (λ n. Appends taken taken (frame (extract (take n (units bytes))))) (sym (leading_unit (leading bytes) refusal refuses)) (written-nothing taken);
-  }
+  taken = bytes;
+  ended = true;
+  took = all.took;
+  within = all.within;
+  shows = (refl, leading_refused (leading bytes) (verdict (units bytes)) refusal refuses);
+  writes = subst (λ n. Appends taken taken (frame (extract (take n (units bytes))))) (sym (leading_unit (leading bytes) refusal refuses)) (written-nothing taken);
+}
 
 -- the whole input was read, and its units were tried
 pub keeping-answers : (limit : ℕ) (input : Input) (output : Output) (bytes : List ℕ) (answer : Result ⊤ ExtractError) → ReadsAll limit input bytes → Keeps bytes output answer → Answers limit input output answer
 keeping-answers limit input output bytes (Ok done) all keeps = record {
-    taken = bytes;
-    took = all.took;
-    within = all.within;
-    accepted = keeps.0;
-    writes = keeps.1;
-  }
+  taken = bytes;
+  took = all.took;
+  within = all.within;
+  accepted = keeps.0;
+  writes = keeps.1;
+}
 keeping-answers limit input output bytes (Err (Refused refusal)) all keeps = record {
-    taken = bytes;
-    ended = true;
-    took = all.took;
-    within = all.within;
-    shows = (refl, keeps.0);
-    writes = keeps.1;
-  }
+  taken = bytes;
+  ended = true;
+  took = all.took;
+  within = all.within;
+  shows = (refl, keeps.0);
+  writes = keeps.1;
+}
 keeping-answers limit input output bytes (Err Read) all keeps = absurd keeps
 keeping-answers limit input output bytes (Err Write) all keeps = record {
-    taken = bytes;
-    ended = true;
-    took = all.took;
-    within = all.within;
-    rose = keeps.0;
-    writes = keeps.1;
-  }
+  taken = bytes;
+  ended = true;
+  took = all.took;
+  within = all.within;
+  rose = keeps.0;
+  writes = keeps.1;
+}
 keeping-answers limit input output bytes (Err TooLong) all keeps = absurd keeps
 keeping-answers limit input output bytes (Err Memory) all keeps = absurd keeps
 
@@ -135,7 +133,7 @@ too_many limit None new taken extra takes full = tt
 too_many limit (Some was) None taken extra takes full = absurd takes
 too_many limit (Some was) (Some is) taken extra takes full =
     inl (sym (ap (λ b. if b then Err TooLong else answer_by (verdict_of was.left)) (past limit (length was.left)
-        (omega (arith, ap length takes, length-append (taken ++ extra ∷ []) is.left, length-append taken (extra ∷ []))))))
+    (omega (arith, ap length takes, length-append (taken ++ extra ∷ []) is.left, length-append taken (extra ∷ []))))))
 
 excused : (old : Option Told) (P : Told → Type 0) → ((was : Told) → P was) → IfSome old P
 excused None P h = tt

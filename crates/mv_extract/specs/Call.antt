@@ -1,5 +1,5 @@
 -- The ends of a call as its contract sees them, at the entry and at the exit.
-use Rattle.std.specs.Prelude.{ℕ, ◌≡◌, ◌≤◌, Bool, true, Option, List, [], IfSome, IsSomeAnd}
+use Rattle.std.specs.Prelude.{ℕ, ◌≡◌, Bool, true, Option, List, [], IfSome, IsSomeAnd}
 use Rattle.mv_io.specs.Faults.{Rose}
 use Rattle.mv_io.specs.Source.{Told, Takes}
 

@@ -1,11 +1,9 @@
-ghost use Rattle.std.specs.Prelude.{◌≡◌, ◌≤◌, map};
-ghost use Rattle.mv_defs.specs.Units.{units};
+ghost use Rattle.std.specs.Prelude.{◌≡◌, ◌≤◌, All, None, map};
+ghost use Rattle.mv_defs.specs.Units.{leading, units};
 ghost use Rattle.mv_bytestream.specs.Spans.{LiesIn, unit_at};
 ghost use Rattle.mv_extract.specs.Answers.{Answers, Settles};
 ghost use Rattle.mv_extract.specs.Call.{input_of, output_of};
 ghost use Rattle.mv_extract.specs.Keeping.{Keeps};
-ghost use Rattle.std.specs.Prelude.{All, None};
-ghost use Rattle.mv_defs.specs.Units.{leading};
 
 use crate::error::ExtractError;
 use crate::reading::read_within;
@@ -71,7 +69,11 @@ fn write_kept<K: Sink>(bytes: &[u8], spans: &[Span], sink: &mut K) -> Result<(),
         let head = match read_head(unit) {
             Ok(head) => head,
             Err(rule) => {
-                let refusal = Refusal { unit: number as u64, byte: span.from as u64, rule };
+                let refusal = Refusal {
+                    unit: number as u64,
+                    byte: span.from as u64,
+                    rule,
+                };
                 return Err(ExtractError::Refused(refusal));
             }
         };

@@ -18,7 +18,11 @@ const PIECE: usize = 65536;
 ///
 /// `Read` where a read failed, `TooLong` where there is a byte more, and `Memory` where the allocator
 /// refused memory.
-pub fn read_within<S: Source>(alloc: Global, source: &mut S, limit: u64) -> Result<Vec<u8>, ExtractError>
+pub fn read_within<S: Source>(
+    alloc: Global,
+    source: &mut S,
+    limit: u64,
+) -> Result<Vec<u8>, ExtractError>
     ensures reads { Reads limit
         (input_of (S.told source.old) (S.told source.new) (S.faults source.old) (S.faults source.new))
         result }
@@ -46,7 +50,11 @@ pub fn read_within<S: Source>(alloc: Global, source: &mut S, limit: u64) -> Resu
 }
 
 // One read, whose bytes are appended. Says how many they are.
-fn read_piece<S: Source>(source: &mut S, piece: &mut [u8], bytes: &mut Vec<u8>) -> Result<usize, ExtractError>
+fn read_piece<S: Source>(
+    source: &mut S,
+    piece: &mut [u8],
+    bytes: &mut Vec<u8>,
+) -> Result<usize, ExtractError>
     requires { 0 < length piece.old }
     ensures gains { Gains (length piece.old)
         (input_of (S.told source.old) (S.told source.new) (S.faults source.old) (S.faults source.new))

@@ -1,10 +1,10 @@
 -- From the answer of the reader on lists to the words of the table.
-use Rattle.std.proofs.Common.{◌≡◌, ℕ, ◌+◌, ◌*◌, Bool, List, length, IfOk, Option, Some, None, Result, Ok, Err, refl, sym, ap, ◌∙◌, subst}
+use Rattle.std.proofs.Common.{◌≡◌, ℕ, ◌+◌, ◌*◌, Bool, List, length, IfOk, Option, Some, None, Result, Ok, Err, refl, sym, ap, ◌∙◌, subst, inl, inr}
 use Rattle.mv_syntax.specs.Bits.{Fault, short, breaks}
 use Rattle.mv_syntax.specs.Cursor.{Cursor}
 use Rattle.mv_syntax.specs.Table.{Table, Reads, Cut, read}
 use Rattle.mv_syntax.specs.Payload.{Payload, ReadsPayload, CutPayload, read_payload}
-use Rattle.mv_syntax.specs.Answers.{Refuses, Answers, FailsAs, Fills, FillsPayload, AnswersPayload, AnswersHeader}
+use Rattle.mv_syntax.specs.Answers.{Refuses, Answers, FailsAs, Fills, FillsPayload, AnswersPayload, AnswersHeader, rule_of, RefusedBy}
 use Rattle.mv_syntax.proofs.TableLaws.{Answered, short-neither, table_answered, reads-of}
 use Rattle.mv_syntax.proofs.PayloadLaws.{payload_answered, reads-read_payload}
 
@@ -41,3 +41,17 @@ pub answers_header : {A X E : Type 0} (view : X → A) (bytes : X → ℕ) (mean
 answers_header view bytes means t old new (Ok x) h size = (new.left, reads-of t old.left (view x) new.left h.0, size)
 answers_header view bytes means t old new (Err e) h size =
     refuses (read t old.left) (λ v. Reads t old.left v.0 v.1) (Cut t old.left) (table_answered t old.left) (means e) h
+
+-- a fault of the reader on lists is a refusal by its rule
+pub refused_by : {V : Type 0} (answer : Result V Fault) (reads : V → Type 0) (cut : ℕ → Type 0) → Answered answer reads cut
+    → (syntax : ℕ) (fault : Fault) → answer ≡ Err fault → RefusedBy reads cut syntax (rule_of syntax fault)
+refused_by answer reads cut h syntax short e = inr (refl, short-neither answer reads cut h e)
+refused_by answer reads cut h syntax (breaks r) e = inl (h.is_rule r e)
+
+pub payload_refused_by : {A : Type 0} (p : Payload A) (b : List Bool) (syntax : ℕ) (fault : Fault) → read_payload p b ≡ Err fault
+    → RefusedBy (ReadsPayload p b) (CutPayload p b) syntax (rule_of syntax fault)
+payload_refused_by p b syntax fault e = refused_by (read_payload p b) (ReadsPayload p b) (CutPayload p b) (payload_answered p b) syntax fault e
+
+pub header_refused_by : {A : Type 0} (t : Table A) (b : List Bool) (syntax : ℕ) (fault : Fault) → read t b ≡ Err fault
+    → RefusedBy {V = A × List Bool} (λ v. Reads t b v.0 v.1) (Cut t b) syntax (rule_of syntax fault)
+header_refused_by t b syntax fault e = refused_by (read t b) (λ v. Reads t b v.0 v.1) (Cut t b) (table_answered t b) syntax fault e

@@ -460,6 +460,11 @@ length-byte_bits [] = refl
 length-byte_bits (byte ∷ bytes) =
     omega (arith, length-append (u_bits 8 byte) (byte_bits bytes), length-u_bits 8 byte, length-byte_bits bytes)
 
+-- after alignment the place is at the end of its byte
+pub length-align_bits : (x : Bool) (place : ℕ) → (place + length (align_bits x place)) % 8 ≡ 0
+unfolding align_bits
+length-align_bits x place = omega (arith, length-replicate ((8 - place % 8) % 8) x)
+
 -- after trailing bits the place is at the end of its byte
 pub length-trailing_bits : (place : ℕ) → (place + length (trailing_bits place)) % 8 ≡ 0
 unfolding trailing_bits align_bits

@@ -2,10 +2,10 @@
 use Rattle.std.proofs.Common.{◌≡◌, ℕ, zero, suc, ◌+◌, ◌-◌, ◌≤◌, ◌<◌, Bool, true, false, List, [], ◌∷◌, ◌++◌, length, replicate, Option, Some, None, is_some, Result, Ok, Err, ◌⊎◌, if◌then◌else◌, nat_lt, refl, sym, ap, ◌∙◌, subst, inl, inr, append_assoc, append-nil, add-zero, nat_eq, ◌%◌, ◌≢◌, arith, length-append}
 use Rattle.mv_syntax.specs.Bits.{Fault, short, breaks, align_bits, trailing_bits, has_one, to_byte_end, more_data, take_bits, u_bits}
 use Rattle.mv_syntax.specs.Bits as bits
-use Rattle.mv_syntax.specs.Table.{Table, Valid, bits_of, Cut, read}
+use Rattle.mv_syntax.specs.Table.{Table, Valid, bits_of, Cut, read, put}
 use Rattle.mv_syntax.specs.Payload.{size_limit, Payload, tail_bits, payload_bits, ReadsPayload, CutPayload, before_last_one, take_tail, same_bits, read_end, read_payload, rest_of_tail, PayloadExactlyOne, PayloadRoundTrips}
 use Rattle.mv_syntax.proofs.BitLaws.{length-trailing_bits, length-u_bits, take_bits-printed}
-use Rattle.mv_syntax.proofs.TableLaws.{behind-count, ok_value, bind-ok, bind-err, read-ok, reads-read, read-cut, cut-read, ok_err, err_fault, breaks-same, short-breaks, Answered, one_of_three}
+use Rattle.mv_syntax.proofs.TableLaws.{behind-count, ok_value, bind-ok, bind-err, read-ok, reads-read, read-cut, cut-read, put-nil, ok_err, err_fault, breaks-same, short-breaks, Answered, one_of_three}
 
 -- ---- the last set bit
 pub zeros-no_one : (n : ℕ) → has_one (replicate n false) ≡ false
@@ -324,7 +324,7 @@ rest_shorter t b v rest e =
 
 -- a bit of the tail is taken, and the place moves by one
 pub tail_next : (total : ℕ) (tail b : List Bool) (v : ℕ) (rest : List Bool) → more_data b ≡ true → take_bits 1 0 b ≡ Ok (v, rest) → length b ≤ total
-  → rest_of_tail (total - length b) tail b ≡ rest_of_tail (total - length rest) (tail ++ nat_eq v 1 ∷ []) rest
+    → rest_of_tail (total - length b) tail b ≡ rest_of_tail (total - length rest) (tail ++ nat_eq v 1 ∷ []) rest
 tail_next total tail b v rest more e room =
     let taken : length b ≡ length rest + 1 = taken_bits 1 b v rest e in
     let place : total - length b + 1 ≡ total - length rest = omega arith in
@@ -332,3 +332,30 @@ tail_next total tail b v rest more e room =
 
 -- The lemmas for a call that reads the end of a payload.
 pub ruleset tail_steps = (tail_begin, tail_turn, tail_found, tail_missing, taken_bits)
+
+-- ---- a payload in the order in which a call reads and writes it
+pub payload_over : {A : Type 0} (p : Payload A) (b : List Bool) → size_limit < length b → read_payload p b ≡ Err (breaks p.size_rule)
+unfolding read_payload
+payload_over p b h = rw (lt-is size_limit (length b) h) refl
+
+pub payload_fault : {A : Type 0} (p : Payload A) (b : List Bool) (fault : Fault) → length b ≤ size_limit → read p.fields b ≡ Err fault → read_payload p b ≡ Err fault
+unfolding read_payload
+payload_fault p b fault h e = rw (le-is size_limit (length b) h, e) refl
+
+pub payload_end : {A : Type 0} (p : Payload A) (b : List Bool) (v : A) (rest : List Bool) (tail : Option (List Bool))
+    → length b ≤ size_limit → read p.fields b ≡ Ok (v, rest) → read_end (p.has_tail v) (length b - length rest) rest ≡ Ok tail → read_payload p b ≡ Ok (v, tail)
+unfolding read_payload
+payload_end p b v rest tail h e end = rw (le-is size_limit (length b) h, e, end) refl
+
+pub payload_end_fault : {A : Type 0} (p : Payload A) (b : List Bool) (v : A) (rest : List Bool) (fault : Fault)
+    → length b ≤ size_limit → read p.fields b ≡ Ok (v, rest) → read_end (p.has_tail v) (length b - length rest) rest ≡ Err fault → read_payload p b ≡ Err fault
+unfolding read_payload
+payload_end_fault p b v rest fault h e end = rw (le-is size_limit (length b) h, e, end) refl
+
+-- the fields are put, the tail's bits stand behind them, and then the trailing bits
+pub payload_put : {A : Type 0} (p : Payload A) (v : A × Option (List Bool))
+    → payload_bits p v ≡ (put p.fields v.0 [] ++ tail_bits v.1) ++ trailing_bits (length (put p.fields v.0 [] ++ tail_bits v.1))
+payload_put p v = rw (put-nil p.fields v.0) refl
+
+-- The lemmas for a call that reads a whole payload.
+pub ruleset payload_steps = (payload_over, payload_fault, payload_end, payload_end_fault)

@@ -30,6 +30,10 @@ items first n t = repeat (λ turn. first + turn) n (λ before. t (first + length
 unfoldable pub items_after : {A : Type 0} → ℕ → ℕ → (ℕ → List A → Table A) → Table (List A)
 items_after first n t = repeat (λ turn. first + turn) n (λ before. t (first + length before) before)
 
+-- A loop of n turns that fills one list, where turn k has the index that the numbering gives it. Its body has the turn.
+unfoldable pub items_numbered : {A : Type 0} → (ℕ → ℕ) → ℕ → (ℕ → Table A) → Table (List A)
+items_numbered index n t = repeat index n (λ before. t (length before))
+
 -- A loop of n turns from index `first` that fills two lists, an item of each in each turn. Its body has the index.
 unfoldable pub columns : {A B : Type 0} → ℕ → ℕ → (ℕ → Table (A × B)) → Table (List A × List B)
 columns first n t = shaped unzipped zipped zipped-unzipped (repeat (λ turn. first + turn) n (λ before. t (first + length before)))

@@ -1,5 +1,5 @@
 use Rattle.mv_extract.specs.Call.{input_of, output_of}
-use Rattle.mv_extract.proofs.Whole.{reading-failed, splitting-ended, leading-refused, keeping-answers, settles}
+use Rattle.mv_extract.proofs.Whole.{reading-failed, leading-refused, keeping-answers, settles}
 use Rattle.mv_extract.proofs.heads.extract_heads.Goals as goal
 
 pub returns-in-Err-clause-answers : goal.returns-in-Err-clause-answers
@@ -29,5 +29,5 @@ returns-in-Err-Refused-clause-settles g c =
     let told = g.K.Sink.taken c.args.sink.now in
     let faults = g.K.Sink.faults c.args.sink.now in
     settles _ (input_of (g.S.Source.told c.args.source.now) (g.S.Source.told c.read_within.new.source) (g.S.Source.faults c.args.source.now) (g.S.Source.faults c.read_within.new.source))
-        (output_of told told faults faults) _
-        (leading-refused _ _ told faults c.in-Ok.bytes.items c.in-Err-Refused.refusal c.in-Ok.ensures.reads (rw (c.deref.ensures.value, c.in-Err-Refused.field-0-is) at c.in-Err-Refused.ensures.refused))
+    (output_of told told faults faults) _
+    (leading-refused _ _ told faults c.in-Ok.bytes.items c.in-Err-Refused.refusal c.in-Ok.ensures.reads (rw (c.deref.ensures.value, c.in-Err-Refused.field-0-is) at c.in-Err-Refused.ensures.refused))

@@ -1,6 +1,8 @@
 use Rattle.std.proofs.Common.{◌≡◌, ◌∙◌, List, Bool, length, ◌+◌, ◌-◌, ◌*◌, ◌%◌, ap, sym, refl}
 use Rattle.mv_syntax.specs.Bits.{align_bits, u_bits}
-use Rattle.mv_bits.proofs.Written.{align_bits-ones, align_bits-zeros, length-written_bits}
+use Rattle.std.proofs.lemmas.Result.{on_ok_weaker}
+use Rattle.mv_syntax.proofs.BitLaws.{length-align_bits}
+use Rattle.mv_bits.proofs.Written.{align_bits-ones, align_bits-zeros, length-written_bits, whole_after}
 use Rattle.mv_bits.proofs.writer.BitWriter.align.Goals as goal
 use Rattle.mv_bits.proofs.writer.BitWriter.align.Goals.{then-bit, else-bit}
 
@@ -21,3 +23,6 @@ returns-clause-ok c =
     ]
     in
     rw same c.u.ensures.ok
+
+pub returns-clause-whole : goal.returns-clause-whole
+returns-clause-whole c = on_ok_weaker c.u.result (λ e. whole_after c.args.self.now _ c.u.new.self e (length-align_bits c.args.bit (length c.args.self.now))) (returns-clause-ok c)
