@@ -1,0 +1,2 @@
+pub mod ProfileTiers
+pub mod Writing
