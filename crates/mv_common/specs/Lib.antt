@@ -3,3 +3,8 @@ pub mod Profile
 pub mod ProfileTier
 pub mod Hrd
 pub mod Vui
+pub mod Deltas
+pub mod ScalingListValue
+pub mod ScalingLists
+pub mod ShortSet
+pub mod ShortSetValue

@@ -1,7 +1,9 @@
-//! The syntax structures that several headers share (H.265 7.3.3, E.2): each read and written exactly.
+//! The syntax structures that several headers share (H.265 7.3.3, 7.3.4, 7.3.7, E.2): each read and written exactly.
 #![tactic(auto)]
 
 mod cpb;
+mod delta;
+mod deltas;
 mod fault;
 mod fields;
 mod format;
@@ -12,10 +14,13 @@ mod laws;
 mod limits;
 mod profile;
 mod profile_tier;
+mod scaling_lists;
+mod short_set;
 mod vui;
 mod vui_parts;
 
 pub use cpb::Cpb;
+pub use delta::{Delta, Side};
 pub use fault::FieldFault;
 pub use fields::{
     coded_set, put_u8, put_u8_if, put_u16, put_u16_if, put_u32, put_u32_if, put_u64, put_ue,
@@ -29,6 +34,8 @@ pub use laws::{hrd_laws, profile_tier_laws, vui_laws};
 pub use limits::{put_ue_within, put_ue_within_if, ue_within, ue_within_if};
 pub use profile::Profile;
 pub use profile_tier::{ProfileArgs, ProfileTier};
+pub use scaling_lists::{ScalingArgs, ScalingList, ScalingLists, ScalingListsOfSize};
+pub use short_set::{ShortArgs, ShortSet};
 pub use vui::{Vui, VuiArgs, VuiTiming};
 pub use vui_parts::{
     AspectRatio, BitstreamRestriction, ChromaLocation, DisplayWindow, Overscan, VideoSignalType,
