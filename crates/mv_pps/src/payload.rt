@@ -1,0 +1,73 @@
+//! The payload of a picture parameter set: read, and written.
+
+ghost use Rattle.std.specs.Prelude.{◌≡◌, ◌≤◌, length, IfOk};
+ghost use Rattle.mv_syntax.specs.Bits.{byte_bits};
+ghost use Rattle.mv_syntax.specs.Payload.{ValidPayload, payload_bits, read_payload};
+ghost use Rattle.mv_syntax.specs.Answers.{FillsPayload, AnswersPayloadBy};
+ghost use Rattle.mv_pps.specs.Faults.{means, broken_rule, syntax_rule};
+ghost use Rattle.mv_pps.specs.Pps.{pps, has_tail};
+
+use crate::ending::{end_of, put_tail};
+use crate::extension::PpsExtension;
+use crate::fault::PpsFault;
+use crate::pps::{Pps, fields_of, put_fields};
+use mv_bits::{BitReader, BitWriter};
+use mv_io::{ReadFault, Rule};
+use std::alloc::{AllocError, Global};
+
+/// The greatest payload of a parameter set, in bytes.
+const MAX_BYTES: usize = 65_536;
+
+// Whether a tail stands behind the fields.
+fn has_tail(extension: Option<PpsExtension>) -> bool
+    ensures { result ≡ has_tail extension }
+{
+    match extension {
+        Some(extension) => extension.pps_extension_4bits > 0,
+        None => false,
+    }
+}
+
+#[tactic(auto, using(mv_syntax::proofs::PayloadLaws::payload_steps))]
+fn payload_of(alloc: Global, payload: &[u8]) -> Result<Pps, PpsFault>
+    ensures { FillsPayload (λ v. v) means result (read_payload pps (byte_bits payload.now)) }
+{
+    if payload.len() > MAX_BYTES {
+        return Err(PpsFault::Breaks(Rule::PpsLimit));
+    }
+    let mut bits = BitReader::new(payload);
+    let mut value = fields_of(alloc, &mut bits)?;
+    value.tail = end_of(alloc, &mut bits, has_tail(value.extension))?;
+    Ok(value)
+}
+
+/// Reads the payload of a picture parameter set (7.3.2.3.1, F.7.3.2.3.1).
+///
+/// `Refused` with the first rule that a field breaks, all fields before it being read: `PpsLimit` where the payload has
+/// over 65,536 bytes or a field is past its limit, and `PpsRange`, `Pps3d`, `PpsScc`, `PocReset`, `LocationOffsets` or
+/// `ColourMapping` at the field that each names; with `PpsSyntax` where no rule is broken and the bytes are no picture
+/// parameter set. `Memory` where memory runs out.
+pub fn read_pps(alloc: Global, payload: &[u8]) -> Result<Pps, ReadFault>
+    ensures { AnswersPayloadBy (λ v. v) broken_rule syntax_rule pps (byte_bits payload.now) result }
+{
+    match payload_of(alloc, payload) {
+        Ok(value) => Ok(value),
+        Err(PpsFault::NoBits) => Err(ReadFault::Refused(Rule::PpsSyntax)),
+        Err(PpsFault::Breaks(rule)) => Err(ReadFault::Refused(rule)),
+        Err(PpsFault::Memory) => Err(ReadFault::Memory),
+    }
+}
+
+/// The payload of a picture parameter set (7.3.2.3.1, F.7.3.2.3.1).
+///
+/// `AllocError` where memory runs out.
+pub fn write_pps(alloc: Global, value: &Pps) -> Result<Vec<u8>, AllocError>
+    requires { ValidPayload pps value.now }
+    ensures { IfOk result (λ bytes. byte_bits bytes.items ≡ payload_bits pps value.now) }
+{
+    let mut out = BitWriter::new(alloc);
+    put_fields(&mut out, value)?;
+    put_tail(&mut out, &value.tail)?;
+    out.trailing()?;
+    Ok(out.into_bytes())
+}
