@@ -1,11 +1,11 @@
 -- What a valid set is known by, and the sets before it.
-use Rattle.std.proofs.Common.{◌≡◌, ℕ, zero, suc, ◌+◌, ◌-◌, ◌*◌, ◌^◌, ◌<◌, ◌≤◌, Bool, true, false, ◌&&◌, not, List, [], ◌∷◌, ◌++◌, length, get_or, take, refl, sym, ap, subst, ◌∙◌, arith, Option, Some, None}
+use Rattle.std.proofs.Common.{◌≡◌, ℕ, zero, suc, ◌+◌, ◌-◌, ◌*◌, ◌^◌, ◌<◌, ◌≤◌, Bool, true, false, ◌&&◌, not, List, [], ◌∷◌, ◌++◌, length, get_or, take, refl, sym, ap, subst, ◌∙◌, append_assoc, append-nil, arith, Option, Some, None}
 use Rattle.std.specs.Prelude.{if◌then◌else◌, nat_lt, nat_eq}
 use Rattle.std.specs.List.{All}
 use Rattle.std.proofs.lemmas.List.Elements.{All-nil, All-weaker, All-from_get_or}
 use Rattle.std.proofs.lemmas.List.{get_or-take, length-take-le, take-take}
 use Rattle.std.proofs.lemmas.Bool.{ltb-true, ltb-false}
-use Rattle.mv_syntax.specs.Table.{Valid, EachValid, when, u, ue}
+use Rattle.mv_syntax.specs.Table.{Valid, EachValid, when, u, ue, put}
 use Rattle.mv_syntax.specs.Words.{◌!◌∶◌, over, is_set, or_zero, coded_set}
 use Rattle.mv_syntax.specs.Loops.{columns}
 use Rattle.mv_syntax.proofs.LoopLaws.{each-valid, columns-lengths, columns-valid}
@@ -179,3 +179,42 @@ earlier_facts idx num sets r x args less =
         valid = each-take (λ before s. Valid (st_ref_pic_set (length before) num (deltas_of_each before)) s) [] sets r args.valid };
       valid = fields_valid r num (deltas_of_each (take r sets)) (get_or sets r x) (valid-at num sets r x args.valid in_sets);
       is = deltas-at sets r x in_sets }
+
+-- the candidates' flags are as many as are counted
+pub candidates_counted : (idx num : ℕ) (earlier : List (List Delta)) (s : ShortSetValue) → Valid (set_fields idx num earlier) s
+  → length s.used_by_curr_pic_flag ≡ num_candidates (coded_set s.inter_ref_pic_set_prediction_flag) (reference idx earlier s.delta_idx_minus1)
+unfolding set_fields
+candidates_counted idx num earlier s h =
+    (columns-lengths candidate_flags 0 (num_candidates (coded_set s.inter_ref_pic_set_prediction_flag) (reference idx earlier s.delta_idx_minus1))
+      s.used_by_curr_pic_flag s.use_delta_flag h.0.1.1.1.1.0).0
+
+-- the deltas of a valid set among others stand near
+pub set_near : (idx num : ℕ) (sets : List ShortSetValue) (s : ShortSetValue) → AreShortArgs idx num sets → Valid (st_ref_pic_set idx num (deltas_of_each sets)) s
+  → All (IsNear (32768 * (idx + 16))) (deltas idx (deltas_of_each sets) s)
+set_near idx num sets s args valid =
+    deltas-near idx (deltas_of_each sets) s (set_facts idx num (deltas_of_each sets) s (fields_valid idx num (deltas_of_each sets) s valid))
+      (λ r less. near-below num sets args.valid (length sets) (omega arith) r (omega (arith, args.all_earlier)))
+
+-- the candidates' flags are valid as a loop over as many as there are, and are written alike by whichever count
+pub flags_valid : (idx num : ℕ) (earlier : List (List Delta)) (s : ShortSetValue) → Valid (set_fields idx num earlier) s
+  → Valid (columns 0 (length s.used_by_curr_pic_flag) candidate_flags) (s.used_by_curr_pic_flag, s.use_delta_flag)
+unfolding set_fields
+flags_valid idx num earlier s h =
+    let here : Valid (columns 0 (num_candidates (coded_set s.inter_ref_pic_set_prediction_flag) (reference idx earlier s.delta_idx_minus1)) candidate_flags) (s.used_by_curr_pic_flag, s.use_delta_flag)
+      = h.0.1.1.1.1.0 in
+    subst (λ n. Valid (columns 0 n candidate_flags) (s.used_by_curr_pic_flag, s.use_delta_flag)) (sym (candidates_counted idx num earlier s h)) here
+
+pub flags_put : (m n : ℕ) (v : List ℕ × List (Option ℕ)) (out : List Bool) → put (columns 0 m candidate_flags) v out ≡ put (columns 0 n candidate_flags) v out
+unfolding columns
+flags_put m n v out = refl
+
+-- a set more among others
+pub each-push : {A : Type 0} (P : List A → A → Type 0) (before vs : List A) (v : A) → EachValid P before vs → P (before ++ vs) v → EachValid P before (vs ++ v ∷ [])
+each-push P before [] v h here = (rw (← append-nil before) here, tt)
+each-push P before (w ∷ vs) v h here = (h.0, each-push P (before ++ w ∷ []) vs v h.1 (rw (append_assoc before (w ∷ []) vs) here))
+
+pub sets_push : (num idx : ℕ) (sets more : List ShortSetValue) (s : ShortSetValue) → ValidSets num sets → length sets ≡ idx → more ≡ sets ++ s ∷ []
+  → Valid (st_ref_pic_set idx num (deltas_of_each sets)) s → ValidSets num more
+sets_push num idx sets more s h count is valid =
+    rw is (each-push (λ before one. Valid (st_ref_pic_set (length before) num (deltas_of_each before)) one) [] sets s h
+      (subst (λ i. Valid (st_ref_pic_set i num (deltas_of_each sets)) s) (sym count) valid))

@@ -15,6 +15,7 @@ mod limits;
 mod profile;
 mod profile_tier;
 mod scaling_lists;
+mod set_laws;
 mod short_set;
 mod vui;
 mod vui_parts;
@@ -35,6 +36,7 @@ pub use limits::{put_ue_within, put_ue_within_if, ue_within, ue_within_if};
 pub use profile::Profile;
 pub use profile_tier::{ProfileArgs, ProfileTier};
 pub use scaling_lists::{ScalingArgs, ScalingList, ScalingLists, ScalingListsOfSize};
+pub use set_laws::{delta_laws, scaling_list_laws, short_set_laws};
 pub use short_set::{ShortArgs, ShortSet};
 pub use vui::{Vui, VuiArgs, VuiTiming};
 pub use vui_parts::{

@@ -99,11 +99,11 @@ fn all_candidate_flags_of(alloc: Global, bits: &mut BitReader, count: usize) -> 
 }
 
 #[tactic(auto, using(mv_syntax::proofs::LoopLaws::put_column_steps))]
-fn put_all_candidate_flags(out: &mut BitWriter, used_by_curr_pic_flag: &[u8], use_delta_flag: &[Option<u8>], count: usize) -> Result<(), AllocError>
-    requires { Valid (columns 0 count candidate_flags) (used_by_curr_pic_flag.now, use_delta_flag.now) }
-    ensures { OnOk result (out.new ≡ put (columns 0 count candidate_flags) (used_by_curr_pic_flag.now, use_delta_flag.now) out.old) }
+fn put_all_candidate_flags(out: &mut BitWriter, used_by_curr_pic_flag: &[u8], use_delta_flag: &[Option<u8>]) -> Result<(), AllocError>
+    requires { Valid (columns 0 (length used_by_curr_pic_flag.now) candidate_flags) (used_by_curr_pic_flag.now, use_delta_flag.now) }
+    ensures { OnOk result (out.new ≡ put (columns 0 (length used_by_curr_pic_flag.now) candidate_flags) (used_by_curr_pic_flag.now, use_delta_flag.now) out.old) }
 {
-    for j in 0..count {
+    for j in 0..used_by_curr_pic_flag.len() {
         put_candidate_flags(out, used_by_curr_pic_flag[j], use_delta_flag[j], j)?;
     }
     Ok(())
@@ -236,4 +236,89 @@ fn set_fields_of(alloc: Global, bits: &mut BitReader, args: &ShortArgs<'_>) -> R
         delta_poc_s1_minus1: positives.0,
         used_by_curr_pic_s1_flag: positives.1,
     })
+}
+
+#[tactic(auto, unfolding(crate::specs::ShortSet::st_ref_pic_set))]
+fn short_set_of(alloc: Global, bits: &mut BitReader, args: &ShortArgs<'_>) -> Result<ShortSet, FieldFault>
+    requires { AreShortArgs args.now.idx args.now.num args.now.earlier.now }
+    ensures { Fills (λ v. v) means bits.old bits.new result (read (st_ref_pic_set args.now.idx args.now.num (deltas_of_each args.now.earlier.now)) bits.old.left) }
+{
+    let set = set_fields_of(alloc, bits, args)?;
+    let deltas = deltas_of(alloc, &set, args)?;
+    if deltas.len() > 16 {
+        return Err(FieldFault::Limit);
+    }
+    Ok(set)
+}
+
+/// Writes the flags of the candidates of a set whose fields are valid.
+fn put_flags_of(out: &mut BitWriter, set: &ShortSet, args: &ShortArgs<'_>) -> Result<(), AllocError>
+    requires { Valid (set_fields args.now.idx args.now.num (deltas_of_each args.now.earlier.now)) set.now }
+    ensures { OnOk result (out.new ≡ put (columns 0 (num_candidates (coded_set set.now.inter_ref_pic_set_prediction_flag) (reference args.now.idx (deltas_of_each args.now.earlier.now) set.now.delta_idx_minus1)) candidate_flags) (set.now.used_by_curr_pic_flag, set.now.use_delta_flag) out.old) }
+{
+    put_all_candidate_flags(out, &set.used_by_curr_pic_flag, &set.use_delta_flag)
+}
+
+#[tactic(auto, unfolding(crate::specs::ShortSet::set_fields))]
+fn put_set_fields(out: &mut BitWriter, set: &ShortSet, args: &ShortArgs<'_>) -> Result<(), AllocError>
+    requires { Valid (set_fields args.now.idx args.now.num (deltas_of_each args.now.earlier.now)) set.now }
+    ensures { OnOk result (out.new ≡ put (set_fields args.now.idx args.now.num (deltas_of_each args.now.earlier.now)) set.now out.old) }
+{
+    let is_predicted = coded_set(set.inter_ref_pic_set_prediction_flag);
+    let last = u32::from(args.idx.saturating_sub(1));
+    let negatives = or_zero(set.num_negative_pics);
+    let positives = or_zero(set.num_positive_pics);
+    put_u8_if(out, args.idx > 0, 1, set.inter_ref_pic_set_prediction_flag)?;
+    put_ue_within_if(out, is_predicted && args.idx == args.num, set.delta_idx_minus1, last)?;
+    put_u8_if(out, is_predicted, 1, set.delta_rps_sign)?;
+    put_ue_within_if(out, is_predicted, set.abs_delta_rps_minus1, 32767)?;
+    put_flags_of(out, set, args)?;
+    put_ue_within_if(out, !is_predicted, set.num_negative_pics, 16)?;
+    put_num_positive_pics(out, !is_predicted, negatives, set.num_positive_pics)?;
+    put_pictures(out, Side::Before, &set.delta_poc_s0_minus1, &set.used_by_curr_pic_s0_flag, negatives)?;
+    put_pictures(out, Side::After, &set.delta_poc_s1_minus1, &set.used_by_curr_pic_s1_flag, positives)
+}
+
+#[tactic(auto, unfolding(crate::specs::ShortSet::st_ref_pic_set))]
+fn put_short_set(out: &mut BitWriter, set: &ShortSet, args: &ShortArgs<'_>) -> Result<(), AllocError>
+    requires { Valid (st_ref_pic_set args.now.idx args.now.num (deltas_of_each args.now.earlier.now)) set.now }
+    ensures { OnOk result (out.new ≡ put (st_ref_pic_set args.now.idx args.now.num (deltas_of_each args.now.earlier.now)) set.now out.old) }
+{
+    put_set_fields(out, set, args)
+}
+
+impl ShortSet {
+    /// Reads st_ref_pic_set(idx, num) (7.3.7).
+    ///
+    /// `NoBits` where the bits end before or in a field or hold no code there, and no earlier field is past its limit;
+    /// `Limit` where all before a field could be read and it is past its limit: delta_idx_minus1 over `idx` - 1, a
+    /// difference over 32768, over 16 pictures, and behind the last field over 16 deltas; `Memory` where memory runs out.
+    /// After a fault the reader stands where it stood.
+    pub fn read(alloc: Global, bits: &mut BitReader, args: &ShortArgs<'_>) -> Result<ShortSet, FieldFault>
+        requires { AreShortArgs args.now.idx args.now.num args.now.earlier.now }
+        ensures { Answers (λ v. v) means (st_ref_pic_set args.now.idx args.now.num (deltas_of_each args.now.earlier.now)) bits.old bits.new result }
+    {
+        let mut ahead = bits.fork();
+        match short_set_of(alloc, &mut ahead, args) {
+            Ok(value) => {
+                *bits = ahead;
+                Ok(value)
+            }
+            Err(fault) => Err(fault),
+        }
+    }
+
+    /// Writes st_ref_pic_set(idx, num) (7.3.7).
+    ///
+    /// `AllocError` where memory runs out: the writer is then unchanged.
+    pub fn write(&self, out: &mut BitWriter, args: &ShortArgs<'_>) -> Result<(), AllocError>
+        requires args { AreShortArgs args.now.idx args.now.num args.now.earlier.now }
+        requires valid { Valid (st_ref_pic_set args.now.idx args.now.num (deltas_of_each args.now.earlier.now)) self.now }
+        ensures ok { OnOk result (out.new ≡ out.old ++ bits_of (st_ref_pic_set args.now.idx args.now.num (deltas_of_each args.now.earlier.now)) self.now) }
+        ensures err { OnErr result (out.new ≡ out.old) }
+    {
+        let mut own = out.empty();
+        put_short_set(&mut own, self, args)?;
+        out.append(&own)
+    }
 }

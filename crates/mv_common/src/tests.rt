@@ -72,22 +72,17 @@ const MAIN: Profile = Profile {
     constraint_last_bit: 0,
 };
 
-// The general profile and level of a stream of an encoder.
+// The general profile and level that an encoder writes.
 #[test]
 fn profile_and_level(rt: HostRuntime) -> Result<(), Fail> {
     let bytes = [0x01, 0x60, 0, 0, 0, 0x90, 0, 0, 0, 0, 0, 0x1E, 0x80];
-    let (value, written) = profile_tier_again(
-        rt.alloc(),
-        &bytes,
-        &ProfileArgs {
-            present: true,
-            subs: 0,
-        },
-    )?;
-    assert_eq!(rt; value.profile, Some(MAIN));
-    assert_eq!(rt; value.level_idc, 30);
+    let args = ProfileArgs {
+        present: true,
+        subs: 0,
+    };
+    let (value, written) = profile_tier_again(rt.alloc(), &bytes, &args)?;
+    assert_eq!(rt; (value.profile, value.level_idc), (Some(MAIN), 30));
     assert!(rt; value.reserved_zero_2bits.is_none());
-    assert!(rt; value.sub_layer_profile.is_empty());
     assert_eq!(rt; written.as_slice(), bytes.as_slice());
     Ok(())
 }
@@ -98,24 +93,12 @@ fn sub_layer_profile_and_level(rt: HostRuntime) -> Result<(), Fail> {
     let bytes = [
         93, 0x90, 0, 0x01, 0x60, 0, 0, 0, 0x90, 0, 0, 0, 0, 0, 60, 0x80,
     ];
-    let (value, written) = profile_tier_again(
-        rt.alloc(),
-        &bytes,
-        &ProfileArgs {
-            present: false,
-            subs: 2,
-        },
-    )?;
-    assert_eq!(rt; value.profile, None);
-    assert_eq!(rt; value.level_idc, 93);
-    assert_eq!(rt;
-        value.sub_layer_profile_present_flag.as_slice(),
-        [1, 0].as_slice()
-    );
-    assert_eq!(rt;
-        value.sub_layer_level_present_flag.as_slice(),
-        [0, 1].as_slice()
-    );
+    let args = ProfileArgs {
+        present: false,
+        subs: 2,
+    };
+    let (value, written) = profile_tier_again(rt.alloc(), &bytes, &args)?;
+    assert_eq!(rt; (value.profile, value.level_idc), (None, 93));
     assert_eq!(rt;
         value.sub_layer_profile.as_slice(),
         [Some(MAIN), None].as_slice()
@@ -136,22 +119,36 @@ const COMMON: HrdArgs = HrdArgs {
     sub_pic: false,
 };
 
+const NO_SCHEDULES: HrdCommon = HrdCommon {
+    nal_hrd_parameters_present_flag: 0,
+    vcl_hrd_parameters_present_flag: 0,
+    sub_pic_hrd_params_present_flag: None,
+    tick_divisor_minus2: None,
+    du_cpb_removal_delay_increment_length_minus1: None,
+    sub_pic_cpb_params_in_pic_timing_sei_flag: None,
+    dpb_output_delay_du_length_minus1: None,
+    bit_rate_scale: None,
+    cpb_size_scale: None,
+    cpb_size_du_scale: None,
+    initial_cpb_removal_delay_length_minus1: None,
+    au_cpb_removal_delay_length_minus1: None,
+    dpb_output_delay_length_minus1: None,
+};
+
 #[test]
 fn shortest_hrd(rt: HostRuntime) -> Result<(), Fail> {
     let bytes = bytes_of(rt.alloc(), "00111")?;
     let (value, written) = hrd_again(rt.alloc(), &bytes, &COMMON)?;
-    let common = value.common.ok_or("the first group is coded")?;
-    assert_eq!(rt; common.nal_hrd_parameters_present_flag, 0);
-    assert_eq!(rt; common.vcl_hrd_parameters_present_flag, 0);
-    assert_eq!(rt; common.sub_pic_hrd_params_present_flag, None);
-    for sub_layer in &value.sub_layers {
-        assert_eq!(rt; sub_layer.fixed_pic_rate_general_flag, 1);
-        assert_eq!(rt; sub_layer.fixed_pic_rate_within_cvs_flag, None);
-        assert_eq!(rt; sub_layer.elemental_duration_in_tc_minus1, Some(0));
-        assert_eq!(rt; sub_layer.low_delay_hrd_flag, None);
-        assert_eq!(rt; sub_layer.cpb_cnt_minus1, Some(0));
-    }
-    assert_eq!(rt; value.sub_layers.len(), 1);
+    assert_eq!(rt; value.common, Some(NO_SCHEDULES));
+    let sub_layer = value.sub_layers.first().ok_or("one sub-layer")?;
+    assert_eq!(rt; sub_layer.fixed_pic_rate_general_flag, 1);
+    assert_eq!(rt;
+        (
+            sub_layer.elemental_duration_in_tc_minus1,
+            sub_layer.cpb_cnt_minus1
+        ),
+        (Some(0), Some(0))
+    );
     assert_eq!(rt; written.as_slice(), bytes.as_slice());
     Ok(())
 }
@@ -165,35 +162,32 @@ fn whole_hrd(rt: HostRuntime) -> Result<(), Fail> {
          1 010 011 00100 1 00101 00110 00111 0001000 0 1 1 1 1 0 1 1 1 1 1",
     )?;
     let (value, written) = hrd_again(rt.alloc(), &bytes, &COMMON)?;
-    let common = value.common.ok_or("the first group is coded")?;
-    assert_eq!(rt; common.tick_divisor_minus2, Some(100));
-    assert_eq!(rt;
-        common.du_cpb_removal_delay_increment_length_minus1,
-        Some(3)
-    );
-    assert_eq!(rt; common.dpb_output_delay_du_length_minus1, Some(4));
-    assert_eq!(rt; common.bit_rate_scale, Some(1));
-    assert_eq!(rt; common.cpb_size_scale, Some(2));
-    assert_eq!(rt; common.cpb_size_du_scale, Some(3));
-    assert_eq!(rt; common.initial_cpb_removal_delay_length_minus1, Some(23));
-    assert_eq!(rt; common.dpb_output_delay_length_minus1, Some(5));
-    for sub_layer in &value.sub_layers {
-        assert_eq!(rt; sub_layer.low_delay_hrd_flag, Some(0));
-        let nal = sub_layer.nal_sub_layer_hrd.as_ref().ok_or("nal")?;
-        let last = nal.last().copied().ok_or("two of nal")?;
-        assert_eq!(rt;
-            last,
-            Cpb {
-                bit_rate_value_minus1: 4,
-                cpb_size_value_minus1: 5,
-                cpb_size_du_value_minus1: Some(6),
-                bit_rate_du_value_minus1: Some(7),
-                cbr_flag: 0
-            }
-        );
-        let vcl = sub_layer.vcl_sub_layer_hrd.as_ref().ok_or("vcl")?;
-        assert_eq!(rt; vcl.len(), 2);
-    }
+    let common = HrdCommon {
+        nal_hrd_parameters_present_flag: 1,
+        vcl_hrd_parameters_present_flag: 1,
+        sub_pic_hrd_params_present_flag: Some(1),
+        tick_divisor_minus2: Some(100),
+        du_cpb_removal_delay_increment_length_minus1: Some(3),
+        sub_pic_cpb_params_in_pic_timing_sei_flag: Some(1),
+        dpb_output_delay_du_length_minus1: Some(4),
+        bit_rate_scale: Some(1),
+        cpb_size_scale: Some(2),
+        cpb_size_du_scale: Some(3),
+        initial_cpb_removal_delay_length_minus1: Some(23),
+        au_cpb_removal_delay_length_minus1: Some(15),
+        dpb_output_delay_length_minus1: Some(5),
+    };
+    assert_eq!(rt; value.common, Some(common));
+    let sub_layer = value.sub_layers.first().ok_or("one sub-layer")?;
+    let nal = sub_layer.nal_sub_layer_hrd.as_ref().ok_or("nal")?;
+    let last = Cpb {
+        bit_rate_value_minus1: 4,
+        cpb_size_value_minus1: 5,
+        cpb_size_du_value_minus1: Some(6),
+        bit_rate_du_value_minus1: Some(7),
+        cbr_flag: 0,
+    };
+    assert_eq!(rt; nal.last().copied(), Some(last));
     assert_eq!(rt; written.as_slice(), bytes.as_slice());
     Ok(())
 }
@@ -210,12 +204,11 @@ fn hrd_by_flags_before(rt: HostRuntime) -> Result<(), Fail> {
         sub_pic: false,
     };
     let (value, written) = hrd_again(rt.alloc(), &bytes, &args)?;
-    assert_eq!(rt; value.common, None);
-    for sub_layer in &value.sub_layers {
-        assert_eq!(rt; sub_layer.low_delay_hrd_flag, Some(1));
-        assert_eq!(rt; sub_layer.cpb_cnt_minus1, None);
-        assert!(rt; sub_layer.vcl_sub_layer_hrd.is_none());
-    }
+    let sub_layer = value.sub_layers.first().ok_or("one sub-layer")?;
+    assert_eq!(rt;
+        (sub_layer.low_delay_hrd_flag, sub_layer.cpb_cnt_minus1),
+        (Some(1), None)
+    );
     assert_eq!(rt; written.as_slice(), bytes.as_slice());
     Ok(())
 }
@@ -223,17 +216,16 @@ fn hrd_by_flags_before(rt: HostRuntime) -> Result<(), Fail> {
 // 0011 and the code of 32 or 31, cut bits, and no bits. A reader that refused stands where it stood.
 #[test]
 fn hrd_faults(rt: HostRuntime) {
-    let rows: [(&[u8], Option<FieldFault>); 4] = [
-        (&[0x30, 0x42], Some(FieldFault::Limit)),
-        (&[0x30, 0x40], None),
-        (&[0x30], Some(FieldFault::NoBits)),
-        (&[], Some(FieldFault::NoBits)),
+    let rows: [(&[u8], Option<FieldFault>, Option<u64>); 4] = [
+        (&[0x30, 0x42], Some(FieldFault::Limit), Some(3)),
+        (&[0x30, 0x40], None, None),
+        (&[0x30], Some(FieldFault::NoBits), Some(3)),
+        (&[], Some(FieldFault::NoBits), None),
     ];
-    for (bytes, want) in rows {
+    for (bytes, fault, next) in rows {
         let mut bits = BitReader::new(bytes);
-        let fault = Hrd::read(rt.alloc(), &mut bits, &COMMON).err();
-        assert_eq!(rt; fault, want);
-        assert_eq!(rt; bits.place() == 0, want.is_some());
+        let answer = Hrd::read(rt.alloc(), &mut bits, &COMMON).err();
+        assert_eq!(rt; (answer, bits.u(4).ok()), (fault, next));
     }
 }
 
@@ -241,13 +233,19 @@ fn hrd_faults(rt: HostRuntime) {
 fn empty_vui(rt: HostRuntime) -> Result<(), Fail> {
     let bytes = bytes_of(rt.alloc(), "0000000000")?;
     let (value, written) = vui_again(rt.alloc(), &bytes, &VuiArgs { subs: 0 })?;
-    assert_eq!(rt; value.aspect_ratio.aspect_ratio_info_present_flag, 0);
-    assert_eq!(rt; value.overscan.overscan_info_present_flag, 0);
-    assert_eq!(rt; value.video_signal_type.video_signal_type_present_flag, 0);
-    assert_eq!(rt; value.chroma_location.chroma_loc_info_present_flag, 0);
-    assert_eq!(rt; value.display_window.default_display_window_flag, 0);
-    assert_eq!(rt; value.timing.vui_timing_info_present_flag, 0);
-    assert_eq!(rt; value.bitstream_restriction.bitstream_restriction_flag, 0);
+    let flags = [
+        value.aspect_ratio.aspect_ratio_info_present_flag,
+        value.overscan.overscan_info_present_flag,
+        value.video_signal_type.video_signal_type_present_flag,
+        value.chroma_location.chroma_loc_info_present_flag,
+        value.neutral_chroma_indication_flag,
+        value.field_seq_flag,
+        value.frame_field_info_present_flag,
+        value.display_window.default_display_window_flag,
+        value.timing.vui_timing_info_present_flag,
+        value.bitstream_restriction.bitstream_restriction_flag,
+    ];
+    assert_eq!(rt; flags, [0; 10]);
     assert_eq!(rt; written.as_slice(), bytes.as_slice());
     Ok(())
 }
@@ -263,44 +261,41 @@ fn whole_vui(rt: HostRuntime) -> Result<(), Fail> {
          1 0 1 1 1 011 010 000010000 0001111",
     )?;
     let (value, written) = vui_again(rt.alloc(), &bytes, &VuiArgs { subs: 0 })?;
-    assert_eq!(rt; value.aspect_ratio.aspect_ratio_idc, Some(255));
-    assert_eq!(rt; value.aspect_ratio.sar_width, Some(4));
-    assert_eq!(rt; value.aspect_ratio.sar_height, Some(3));
-    assert_eq!(rt; value.overscan.overscan_appropriate_flag, Some(1));
-    assert_eq!(rt; value.video_signal_type.video_format, Some(5));
-    assert_eq!(rt; value.video_signal_type.colour_primaries, Some(9));
-    assert_eq!(rt; value.video_signal_type.transfer_characteristics, Some(16));
-    assert_eq!(rt;
-        value.chroma_location.chroma_sample_loc_type_top_field,
-        Some(2)
-    );
-    assert_eq!(rt;
+    let small = [
+        value.overscan.overscan_appropriate_flag,
+        value.video_signal_type.video_format,
+        value.video_signal_type.video_full_range_flag,
+        value.video_signal_type.transfer_characteristics,
+        value.timing.vui_poc_proportional_to_timing_flag,
+        value
+            .bitstream_restriction
+            .motion_vectors_over_pic_boundaries_flag,
+    ];
+    let wide = [
         value.chroma_location.chroma_sample_loc_type_bottom_field,
-        Some(3)
-    );
-    assert_eq!(rt; value.field_seq_flag, 1);
-    assert_eq!(rt; value.display_window.def_disp_win_bottom_offset, Some(3));
-    assert_eq!(rt; value.timing.vui_num_units_in_tick, Some(1001));
-    assert_eq!(rt; value.timing.vui_time_scale, Some(60000));
-    assert_eq!(rt; value.timing.vui_num_ticks_poc_diff_one_minus1, Some(0));
-    assert!(rt; value.timing.hrd_parameters.is_some());
-    assert_eq!(rt;
-        value.bitstream_restriction.restricted_ref_pic_lists_flag,
-        Some(1)
-    );
-    assert_eq!(rt;
+        value.display_window.def_disp_win_top_offset,
+        value.timing.vui_num_units_in_tick,
+        value.timing.vui_time_scale,
+        value.bitstream_restriction.max_bytes_per_pic_denom,
         value.bitstream_restriction.log2_max_mv_length_horizontal,
-        Some(15)
+    ];
+    assert_eq!(rt;
+        (value.aspect_ratio.sar_width, value.aspect_ratio.sar_height),
+        (Some(4), Some(3))
     );
     assert_eq!(rt;
-        value.bitstream_restriction.log2_max_mv_length_vertical,
-        Some(14)
+        small,
+        [Some(1), Some(5), Some(0), Some(16), Some(1), Some(1)]
+    );
+    assert_eq!(rt;
+        wide,
+        [Some(3), Some(2), Some(1001), Some(60000), Some(2), Some(15)]
     );
     assert_eq!(rt; written.as_slice(), bytes.as_slice());
     Ok(())
 }
 
-// What an encoder writes of a display of its own, and of a hypothetical reference decoder with two sub-layers.
+// What an encoder writes of a display of its own.
 #[test]
 fn encoder_vui(rt: HostRuntime) -> Result<(), Fail> {
     let bytes = bytes_of(
@@ -309,20 +304,25 @@ fn encoder_vui(rt: HostRuntime) -> Result<(), Fail> {
          1 00000000000000000000001111101000 00000000000000000110000110101000 0 0 0",
     )?;
     let (value, written) = vui_again(rt.alloc(), &bytes, &VuiArgs { subs: 0 })?;
-    assert_eq!(rt; value.aspect_ratio.aspect_ratio_idc, Some(4));
-    assert_eq!(rt; value.aspect_ratio.sar_width, None);
-    assert_eq!(rt; value.overscan.overscan_appropriate_flag, Some(0));
-    assert_eq!(rt; value.video_signal_type.video_format, Some(1));
-    assert_eq!(rt; value.video_signal_type.matrix_coeffs, Some(1));
-    assert_eq!(rt; value.display_window.def_disp_win_left_offset, Some(2));
-    assert_eq!(rt; value.display_window.def_disp_win_right_offset, Some(4));
-    assert_eq!(rt; value.timing.vui_num_units_in_tick, Some(1000));
-    assert_eq!(rt; value.timing.vui_time_scale, Some(25000));
-    assert!(rt; value.timing.hrd_parameters.is_none());
+    let wide = [
+        value.display_window.def_disp_win_left_offset,
+        value.display_window.def_disp_win_right_offset,
+        value.timing.vui_num_units_in_tick,
+        value.timing.vui_time_scale,
+    ];
+    assert_eq!(rt;
+        (
+            value.aspect_ratio.aspect_ratio_idc,
+            value.overscan.overscan_appropriate_flag
+        ),
+        (Some(4), Some(0))
+    );
+    assert_eq!(rt; wide, [Some(2), Some(4), Some(1000), Some(25000)]);
     assert_eq!(rt; written.as_slice(), bytes.as_slice());
     Ok(())
 }
 
+// What an encoder writes of a hypothetical reference decoder with two sub-layers.
 #[test]
 fn encoder_hrd(rt: HostRuntime) -> Result<(), Fail> {
     let bytes = bytes_of(
@@ -334,13 +334,16 @@ fn encoder_hrd(rt: HostRuntime) -> Result<(), Fail> {
     )?;
     let (value, written) = vui_again(rt.alloc(), &bytes, &VuiArgs { subs: 1 })?;
     let hrd = value.timing.hrd_parameters.as_ref().ok_or("an HRD")?;
-    assert_eq!(rt; hrd.sub_layers.len(), 2);
-    for sub_layer in &hrd.sub_layers {
-        let nal = sub_layer.nal_sub_layer_hrd.as_ref().ok_or("nal")?;
-        let cpb = nal.first().copied().ok_or("one of nal")?;
-        assert_eq!(rt; cpb.bit_rate_value_minus1, 15624);
-        assert_eq!(rt; cpb.cpb_size_value_minus1, 15624);
-    }
+    let sub_layer = hrd.sub_layers.last().ok_or("two sub-layers")?;
+    let nal = sub_layer.nal_sub_layer_hrd.as_ref().ok_or("nal")?;
+    let cpb = Cpb {
+        bit_rate_value_minus1: 15624,
+        cpb_size_value_minus1: 15624,
+        cpb_size_du_value_minus1: None,
+        bit_rate_du_value_minus1: None,
+        cbr_flag: 0,
+    };
+    assert_eq!(rt; nal.first().copied(), Some(cpb));
     assert_eq!(rt; written.as_slice(), bytes.as_slice());
     Ok(())
 }
