@@ -4,7 +4,7 @@ use Rattle.mv_syntax.specs.Bits.{Fault, short, breaks}
 use Rattle.mv_syntax.specs.Cursor.{Cursor}
 use Rattle.mv_syntax.specs.Table.{Table, Reads, Cut, by_rule, counted_as, read}
 use Rattle.mv_syntax.specs.Answers.{Refuses, Answers, FailsAs, Fills}
-use Rattle.mv_syntax.proofs.TableLaws.{Answered, table_answered}
+use Rattle.mv_syntax.proofs.TableLaws.{Answered, table_answered, put-is}
 
 -- where a call says why nothing reads, the reader on lists answers so
 pub fails : {V : Type 0} (answer : Result V Fault) (reads : V → Type 0) (cut : ℕ → Type 0) → Answered answer reads cut
@@ -24,3 +24,6 @@ pub fills : {A X E : Type 0} (view : X → A) (means : E → Option Fault) (t : 
 fills view means t old new (Ok x) h = ((table_answered t old.left).value (view x, new.left) h.0, h.1)
 fills view means t old new (Err e) h =
     fails (read t old.left) (λ v. Reads t old.left v.0 v.1) (Cut t old.left) (table_answered t old.left) (means e) h.0
+
+-- What a writer of a shared structure needs.
+pub ruleset shared_put_steps = (put-is)

@@ -1,7 +1,9 @@
 ghost use Rattle.std.specs.Prelude.{◌≡◌};
+ghost use Rattle.mv_pps.specs.Faults.{of_shared};
 ghost use Rattle.mv_pps.specs.declared.fault.PpsFault.TheVariants.{NoBits as no_bits, Memory};
 
 use mv_bits::NoBits;
+use mv_common::FieldFault;
 use mv_io::Rule;
 use std::alloc::{AllocError, AllocFailed};
 
@@ -21,6 +23,18 @@ impl From<NoBits> for PpsFault {
 
     fn from(_e: NoBits) -> PpsFault {
         PpsFault::NoBits
+    }
+}
+
+impl From<FieldFault> for PpsFault {
+    ghost from_gives = { λ fault e. e ≡ of_shared fault };
+
+    fn from(fault: FieldFault) -> PpsFault {
+        match fault {
+            FieldFault::NoBits => PpsFault::NoBits,
+            FieldFault::Limit => PpsFault::Breaks(Rule::PpsLimit),
+            FieldFault::Memory => PpsFault::Memory,
+        }
     }
 }
 

@@ -47,7 +47,7 @@ pub(crate) fn se_if(bits: &mut BitReader, present: bool) -> Result<Option<i32>, 
 }
 
 /// Writes a field se(v).
-#[tactic(auto, using(mv_syntax::proofs::BitLaws::se_code-above))]
+#[tactic(auto, using(crate::proofs::SignedFields::signed_steps))]
 pub(crate) fn put_se(out: &mut BitWriter, field: i32) -> Result<(), AllocError>
     requires { Valid se field }
     ensures { OnOk result (out.new ≡ put se field out.old) }

@@ -2,19 +2,27 @@
 #![tactic(auto)]
 
 mod deblocking;
+mod ending;
 mod extension;
 mod fault;
 mod fields;
 mod head;
+mod laws;
 mod multilayer;
+mod payload;
+mod pps;
 mod quantization;
+mod scaling;
 mod tiles;
 mod tools;
 
 pub use deblocking::PpsDeblocking;
 pub use extension::PpsExtension;
 pub use head::PpsHead;
+pub use laws::pps_laws;
 pub use multilayer::PpsMultilayer;
+pub use payload::{read_pps, write_pps};
+pub use pps::Pps;
 pub use quantization::PpsQuantization;
 pub use tiles::PpsTiles;
 pub use tools::PpsTools;

@@ -3,8 +3,8 @@
 ghost use Rattle.std.specs.Prelude.{◌≡◌, ◌≤◌, length, IfOk};
 ghost use Rattle.mv_syntax.specs.Bits.{byte_bits};
 ghost use Rattle.mv_syntax.specs.Payload.{ValidPayload, payload_bits, read_payload};
-ghost use Rattle.mv_syntax.specs.Answers.{FillsPayload, AnswersPayloadBy};
-ghost use Rattle.mv_pps.specs.Faults.{means, broken_rule, syntax_rule};
+ghost use Rattle.mv_syntax.specs.Answers.{FillsPayload, AnswersPayload};
+ghost use Rattle.mv_pps.specs.Faults.{means, refusal_means};
 ghost use Rattle.mv_pps.specs.Pps.{pps, has_tail};
 
 use crate::ending::{end_of, put_tail};
@@ -48,7 +48,7 @@ fn payload_of(alloc: Global, payload: &[u8]) -> Result<Pps, PpsFault>
 /// `ColourMapping` at the field that each names; with `PpsSyntax` where no rule is broken and the bytes are no picture
 /// parameter set. `Memory` where memory runs out.
 pub fn read_pps(alloc: Global, payload: &[u8]) -> Result<Pps, ReadFault>
-    ensures { AnswersPayloadBy (λ v. v) broken_rule syntax_rule pps (byte_bits payload.now) result }
+    ensures { AnswersPayload (λ v. v) refusal_means pps (byte_bits payload.now) result }
 {
     match payload_of(alloc, payload) {
         Ok(value) => Ok(value),

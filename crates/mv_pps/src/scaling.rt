@@ -31,7 +31,7 @@ pub(crate) fn scaling_lists_if(
     Ok(Some(scaling_lists_of(alloc, bits)?))
 }
 
-#[tactic(auto, using(mv_syntax::proofs::TableLaws::put-is))]
+#[tactic(auto, using(crate::proofs::Shared::shared_put_steps))]
 pub(crate) fn put_scaling_lists_if(
     out: &mut BitWriter,
     present: bool,
