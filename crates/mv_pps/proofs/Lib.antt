@@ -1,3 +1,3 @@
-pub mod Endings
+pub mod Payloads
 pub mod Shared
 pub mod SignedFields

@@ -1,10 +1,15 @@
 -- A shared structure in a header: its limit counts as a rule of the header.
 use Rattle.std.proofs.Common.{◌≡◌, ℕ, Bool, List, Option, Some, None, Result, Ok, Err, refl, ap, ◌∙◌}
 use Rattle.mv_syntax.specs.Bits.{Fault, short, breaks}
-use Rattle.mv_syntax.specs.Cursor.{Cursor}
 use Rattle.mv_syntax.specs.Table.{Table, Reads, Cut, by_rule, counted_as, read}
-use Rattle.mv_syntax.specs.Answers.{Refuses, Answers, FailsAs, Fills}
-use Rattle.mv_syntax.proofs.TableLaws.{Answered, table_answered, put-is}
+use Rattle.mv_syntax.specs.Payload.{read_end}
+use Rattle.mv_syntax.specs.Answers.{Refuses, FailsAs}
+use Rattle.mv_syntax.proofs.TableLaws.{Answered, table_answered, put-is, short-breaks}
+use Rattle.mv_syntax.proofs.PayloadLaws.{read_end-failed}
+use Rattle.mv_common.specs.Faults.{means as shared_means}
+use Rattle.mv_common.specs.declared.fault.FieldFault.{FieldFault}
+use Rattle.mv_common.specs.declared.fault.FieldFault.TheVariants.{NoBits as no_bits, Limit as past_limit, Memory as no_memory}
+use Rattle.mv_pps.specs.Faults.{means, of_shared}
 
 -- where a call says why nothing reads, the reader on lists answers so
 pub fails : {V : Type 0} (answer : Result V Fault) (reads : V → Type 0) (cut : ℕ → Type 0) → Answered answer reads cut
@@ -18,12 +23,23 @@ fails {V} answer reads cut all (Some short) why = go answer refl
     go (Err (breaks r)) e = absurd (why.1 (r, all.is_rule r e))
 fails answer reads cut all (Some (breaks r)) why = all.rule r why
 
--- the same, of a call that reads by a table
-pub fills : {A X E : Type 0} (view : X → A) (means : E → Option Fault) (t : Table A) (old new : Cursor) (result : Result X E)
-    → Answers view means t old new result → Fills view means old new result (read t old.left)
-fills view means t old new (Ok x) h = ((table_answered t old.left).value (view x, new.left) h.0, h.1)
-fills view means t old new (Err e) h =
-    fails (read t old.left) (λ v. Reads t old.left v.0 v.1) (Cut t old.left) (table_answered t old.left) (means e) h.0
+-- what reads by a shared table reads in a header
+pub shared_reads : {A : Type 0} (r : ℕ) (t : Table A) (b : List Bool) (v : A) (rest : List Bool) → Reads t b v rest → read (by_rule r t) b ≡ Ok (v, rest)
+shared_reads r t b v rest h = ap (counted_as r) ((table_answered t b).value (v, rest) h)
+
+-- a fault of a shared table is one of the header
+pub shared_fails : {A : Type 0} (t : Table A) (b : List Bool) (fault : FieldFault)
+    → Refuses {V = A × List Bool} (λ v. Reads t b v.0 v.1) (Cut t b) (shared_means fault) → FailsAs (means (of_shared fault)) (read (by_rule 47 t) b)
+shared_fails t b no_bits why = ap (counted_as 47) (fails (read t b) (λ v. Reads t b v.0 v.1) (Cut t b) (table_answered t b) (Some short) why)
+shared_fails t b past_limit why = ap (counted_as 47) ((table_answered t b).rule 0 why)
+shared_fails t b no_memory why = tt
+
+-- and so is one of a payload's end
+pub end_fault : (some : Bool) (place : ℕ) (b : List Bool) (fault : FieldFault)
+    → FailsAs (shared_means fault) (read_end some place b) → FailsAs (means (of_shared fault)) (read_end some place b)
+end_fault some place b no_bits e = e
+end_fault some place b past_limit e = absurd (short-breaks 0 (read_end-failed some place b (breaks 0) e))
+end_fault some place b no_memory e = tt
 
 -- What a writer of a shared structure needs.
 pub ruleset shared_put_steps = (put-is)

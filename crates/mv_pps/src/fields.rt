@@ -1,12 +1,12 @@
 //! Single fields under a rule, and signed ones: read, and written.
 
-ghost use Rattle.std.specs.Prelude.{◌≡◌, OnOk};
+ghost use Rattle.std.specs.Prelude.{◌≡◌, ◌≢◌, OnOk};
 ghost use Rattle.mv_syntax.specs.Table.{u, ue, se, when, Valid, read, put};
 ghost use Rattle.mv_syntax.specs.Words.{◌!◌∶◌, over, is_set};
 ghost use Rattle.mv_syntax.specs.Answers.{Fills};
 ghost use Rattle.mv_bits.specs.Cursor.{Takes};
 ghost use Rattle.mv_io.specs.Rule.{rule_number};
-ghost use Rattle.mv_pps.specs.Faults.{means};
+ghost use Rattle.mv_pps.specs.Faults.{means, syntax_rule};
 
 use crate::fault::PpsFault;
 use mv_bits::{BitReader, BitWriter, NoBits};
@@ -16,6 +16,7 @@ use std::alloc::AllocError;
 
 /// The next field ue(v), which breaks the rule where it is over `limit`.
 pub(crate) fn ue_within(bits: &mut BitReader, rule: Rule, limit: u32) -> Result<u32, PpsFault>
+    requires { rule_number rule ≢ syntax_rule }
     ensures { Fills (λ v. v) means bits.old bits.new result (read (ue ! rule_number rule ∶ over limit) bits.old.left) }
 {
     let value = bits.ue()?;
@@ -27,6 +28,7 @@ pub(crate) fn ue_within(bits: &mut BitReader, rule: Rule, limit: u32) -> Result<
 
 /// The next flag, which breaks the rule where it is 1.
 pub(crate) fn unset_flag(bits: &mut BitReader, rule: Rule) -> Result<u8, PpsFault>
+    requires { rule_number rule ≢ syntax_rule }
     ensures { Fills (λ v. v) means bits.old bits.new result (read (u 1 ! rule_number rule ∶ is_set) bits.old.left) }
 {
     let flag = u8_of(bits, 1)?;

@@ -2,7 +2,6 @@
 #![tactic(auto)]
 
 mod deblocking;
-mod ending;
 mod extension;
 mod fault;
 mod fields;

@@ -2,16 +2,16 @@
 
 ghost use Rattle.std.specs.Prelude.{◌≡◌, ◌≤◌, length, IfOk};
 ghost use Rattle.mv_syntax.specs.Bits.{byte_bits};
-ghost use Rattle.mv_syntax.specs.Payload.{ValidPayload, payload_bits, read_payload};
+ghost use Rattle.mv_syntax.specs.Payload.{size_limit, ValidPayload, payload_bits, read_payload};
 ghost use Rattle.mv_syntax.specs.Answers.{FillsPayload, AnswersPayload};
 ghost use Rattle.mv_pps.specs.Faults.{means, refusal_means};
 ghost use Rattle.mv_pps.specs.Pps.{pps, has_tail};
 
-use crate::ending::{end_of, put_tail};
 use crate::extension::PpsExtension;
 use crate::fault::PpsFault;
 use crate::pps::{Pps, fields_of, put_fields};
 use mv_bits::{BitReader, BitWriter};
+use mv_common::{payload_end_of, put_payload_end};
 use mv_io::{ReadFault, Rule};
 use std::alloc::{AllocError, Global};
 
@@ -28,17 +28,20 @@ fn has_tail(extension: Option<PpsExtension>) -> bool
     }
 }
 
-#[tactic(auto, using(mv_syntax::proofs::PayloadLaws::payload_steps))]
-fn payload_of(alloc: Global, payload: &[u8]) -> Result<Pps, PpsFault>
+// The fields and the end of a payload that is not too long.
+fn parts_of(alloc: Global, payload: &[u8]) -> Result<Pps, PpsFault>
+    requires { length (byte_bits payload.now) ≤ size_limit }
     ensures { FillsPayload (λ v. v) means result (read_payload pps (byte_bits payload.now)) }
 {
-    if payload.len() > MAX_BYTES {
-        return Err(PpsFault::Breaks(Rule::PpsLimit));
-    }
     let mut bits = BitReader::new(payload);
-    let mut value = fields_of(alloc, &mut bits)?;
-    value.tail = end_of(alloc, &mut bits, has_tail(value.extension))?;
-    Ok(value)
+    let value = match fields_of(alloc, &mut bits) {
+        Ok(value) => value,
+        Err(fault) => return Err(fault),
+    };
+    match payload_end_of(alloc, &mut bits, has_tail(value.extension)) {
+        Ok(tail) => Ok(Pps { tail, ..value }),
+        Err(fault) => Err(PpsFault::from(fault)),
+    }
 }
 
 /// Reads the payload of a picture parameter set (7.3.2.3.1, F.7.3.2.3.1).
@@ -50,7 +53,10 @@ fn payload_of(alloc: Global, payload: &[u8]) -> Result<Pps, PpsFault>
 pub fn read_pps(alloc: Global, payload: &[u8]) -> Result<Pps, ReadFault>
     ensures { AnswersPayload (λ v. v) refusal_means pps (byte_bits payload.now) result }
 {
-    match payload_of(alloc, payload) {
+    if payload.len() > MAX_BYTES {
+        return Err(ReadFault::Refused(Rule::PpsLimit));
+    }
+    match parts_of(alloc, payload) {
         Ok(value) => Ok(value),
         Err(PpsFault::NoBits) => Err(ReadFault::Refused(Rule::PpsSyntax)),
         Err(PpsFault::Breaks(rule)) => Err(ReadFault::Refused(rule)),
@@ -67,7 +73,6 @@ pub fn write_pps(alloc: Global, value: &Pps) -> Result<Vec<u8>, AllocError>
 {
     let mut out = BitWriter::new(alloc);
     put_fields(&mut out, value)?;
-    put_tail(&mut out, &value.tail)?;
-    out.trailing()?;
+    put_payload_end(&mut out, &value.tail)?;
     Ok(out.into_bytes())
 }

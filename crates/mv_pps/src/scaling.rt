@@ -14,8 +14,10 @@ use std::alloc::{AllocError, Global};
 fn scaling_lists_of(alloc: Global, bits: &mut BitReader) -> Result<ScalingLists, PpsFault>
     ensures { Fills (λ v. v) means bits.old bits.new result (read (by_rule 47 scaling_list_data) bits.old.left) }
 {
-    let lists = ScalingLists::read(alloc, bits, &ScalingArgs {})?;
-    Ok(lists)
+    match ScalingLists::read(alloc, bits, &ScalingArgs {}) {
+        Ok(lists) => Ok(lists),
+        Err(fault) => Err(PpsFault::from(fault)),
+    }
 }
 
 pub(crate) fn scaling_lists_if(
