@@ -25,3 +25,6 @@ pub use pps::Pps;
 pub use quantization::PpsQuantization;
 pub use tiles::PpsTiles;
 pub use tools::PpsTools;
+
+#[cfg(test)]
+mod tests;
