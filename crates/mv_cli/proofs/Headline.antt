@@ -16,7 +16,7 @@ use Rattle.mv_cli.specs.Words.{IsForm}
 
 by_status : (old : Option Told) (limit : ℕ) (answer : Result ⊤ ExtractError) → IfSome old (λ was. (answer ≡ due limit was.left) ⊎ (answer ≡ Err Memory)) → IfSome old (λ was. (answer_status answer ≡ answer_status (due limit was.left)) ⊎ (answer_status answer ≡ 5))
 by_status None limit answer h = tt
-by_status (Some was) limit answer h = elim h [ | inl e ↦ inl (ap answer_status e) | inr e ↦ inr (ap answer_status e) ]
+by_status (Some was) limit answer h = elim h [ inl e ↦ inl (ap answer_status e) | inr e ↦ inr (ap answer_status e) ]
 
 -- the line of a refusal, if that is the answer
 abbrev RefusalTold : Output → Result ⊤ ExtractError → Type 0
