@@ -1,5 +1,5 @@
 -- The answers of extraction, from what the pieces and the end brought.
-use Rattle.std.proofs.Common.{◌≡◌, ℕ, ◌+◌, ◌-◌, ◌<◌, ◌≤◌, ◌==◌, ◌^◌, Bool, true, false, List, [], ◌∷◌, ◌++◌, take, length, Option, None, Some, Result, Ok, Err, refl, ap, sym, ◌∙◌, subst, arith, append-nil, length-append}
+use Rattle.std.proofs.Common.{◌≡◌, ℕ, ◌+◌, ◌-◌, ◌≤◌, ◌==◌, Bool, true, false, List, [], ◌++◌, take, length, Option, None, Some, Result, Ok, Err, refl, ap, sym, ◌∙◌, subst, arith, append-nil, length-append}
 use Rattle.std.specs.Prelude.{⊤}
 use Rattle.std.proofs.lemmas.List.{nil_from_length}
 use Rattle.std.proofs.Math.Seq.{take-append_seam}
@@ -7,22 +7,20 @@ use Rattle.mv_io.specs.declared.refusal.Refusal.{Refusal}
 use Rattle.mv_io.specs.Sink.{Appends}
 use Rattle.mv_io.specs.Source.{Told}
 use Rattle.mv_io.proofs.Appends.{Appends-nothing}
-use Rattle.mv_defs.specs.Event.{Event, Accepted, Refused as RefusedFor, Shows, event, refusal_shown, whole_units}
+use Rattle.mv_defs.specs.Event.{Event, Accepted, Refused as RefusedFor, event, refusal_shown, whole_units}
 use Rattle.mv_defs.specs.Rules.{rules}
-use Rattle.mv_defs.specs.Units.{units}
 use Rattle.mv_defs.specs.Verdict.{verdict}
 use Rattle.mv_defs.specs.Facts.{facts_behind}
-use Rattle.mv_defs.specs.Framing.{frame}
 use Rattle.mv_defs.proofs.Silent.{shows-nothing, shows-refusal}
 use Rattle.mv_bytestream.specs.Scan.{Scan, StandsFor, nothing_fed}
 use Rattle.mv_extract.specs.declared.error.ExtractError.{ExtractError}
 use Rattle.mv_extract.specs.declared.error.ExtractError.TheVariants.{Refused, Read, Write, TooLong, Memory}
-use Rattle.mv_extract.specs.Answers.{Answers, Decide, MemoryEnds, Prompt, Refuses, ShowNothing, largest_piece}
-use Rattle.mv_extract.specs.Call.{Input, Output, InputRose, OutputRose, input_of, output_of, Took}
-use Rattle.mv_extract.specs.Handling.{GainsPart, Handled, HandlesEnd, Idle, Leaves, LeavesRefused, SinkCause}
+use Rattle.mv_extract.specs.Answers.{Answers, MemoryEnds, Refuses, ShowNothing, largest_piece}
+use Rattle.mv_extract.specs.Call.{Input, Output, input_of, output_of, Took}
+use Rattle.mv_extract.specs.Handling.{GainsPart, HandlesEnd, Idle, SinkCause}
 use Rattle.mv_extract.specs.Reading.{EndsHere, Gains, Reads, Stops}
 use Rattle.mv_extract.specs.Text.{text, text_taken}
-use Rattle.mv_extract.proofs.Fed.{Rose-earlier, all-taken, cause-later, event-ended, idle-quiet}
+use Rattle.mv_extract.proofs.Fed.{Rose-earlier, all-taken, event-ended, idle-quiet}
 use Rattle.mv_extract.proofs.Taking.{Took-nothing, Took-then, Took-end}
 use Rattle.mv_extract.proofs.UnitSteps.{text-nothing}
 

@@ -1,5 +1,5 @@
 -- What feeding a piece, or the end of the input, leaves.
-use Rattle.std.proofs.Common.{◌≡◌, ℕ, suc, zero, ◌+◌, ◌-◌, ◌<◌, ◌≤◌, ◌^◌, Bool, true, false, List, [], ◌∷◌, ◌++◌, take, drop, length, Option, None, Some, Result, Ok, Err, refl, ap, sym, ◌∙◌, subst, arith, append_assoc, append-nil, length-append, length-take}
+use Rattle.std.proofs.Common.{◌≡◌, ℕ, suc, zero, ◌+◌, ◌-◌, ◌<◌, ◌≤◌, ◌^◌, true, false, List, [], ◌∷◌, ◌++◌, take, drop, length, Option, None, Some, Result, Ok, Err, refl, ap, sym, ◌∙◌, subst, arith, append_assoc, append-nil, length-append, length-take}
 use Rattle.std.specs.Prelude.{⊤}
 use Rattle.std.specs.Option.{option_map, option_or, option_to_list}
 use Rattle.std.proofs.lemmas.List.{take_rest, take-append-drop, length-take-le, length-drop}
@@ -10,7 +10,7 @@ use Rattle.mv_io.specs.Sink.{Appends}
 use Rattle.mv_defs.specs.Event.{Event, Accepted, Refused as RefusedFor, event, refusal_shown, whole_units}
 use Rattle.mv_defs.specs.Rules.{rules, unit_rules}
 use Rattle.mv_defs.specs.Units.{NalUnit, leading, units}
-use Rattle.mv_defs.specs.Verdict.{refused_leading, verdict, verdict_of}
+use Rattle.mv_defs.specs.Verdict.{refused_leading, verdict}
 use Rattle.mv_defs.proofs.InTurn.{refused-in_turn, accepted-in_turn}
 use Rattle.mv_defs.proofs.Shows.{shown-stays, whole-stays}
 use Rattle.mv_io.specs.declared.rule.Rule.{Rule}
@@ -19,7 +19,7 @@ use Rattle.mv_bytestream.proofs.Written.{AppendsPrefix-first}
 use Rattle.mv_extract.specs.declared.error.ExtractError.{ExtractError}
 use Rattle.mv_extract.specs.declared.error.ExtractError.TheVariants.{Refused, Read, Write, TooLong, Memory}
 use Rattle.mv_extract.specs.Handling.{GainsPart, Handled, HandlesUnit, HandlesEnd, Idle, Leaves, LeavesRefused, SinkCause}
-use Rattle.mv_extract.specs.Text.{text, text_taken, text_before}
+use Rattle.mv_extract.specs.Text.{text, text_taken}
 use Rattle.mv_extract.proofs.UnitSteps.{starts-take, starts-length, whole-starts, all-before, text-starts}
 
 -- where no unit waits, all units taken whole were accepted, and the kept ones written

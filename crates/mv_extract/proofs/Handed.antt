@@ -1,6 +1,5 @@
 -- What handing out the unit that waits, and trying it, leaves.
-use Rattle.std.proofs.Common.{◌≡◌, ℕ, ◌+◌, ◌<◌, ◌≤◌, ◌==◌, ◌^◌, Bool, List, [], ◌∷◌, ◌++◌, take, drop, length, Option, None, Some, Result, Ok, Err, refl, ap, sym, ◌∙◌, subst, arith, if◌then◌else◌, append-nil}
-use Rattle.std.specs.Prelude.{⊤}
+use Rattle.std.proofs.Common.{◌≡◌, ℕ, ◌+◌, ◌<◌, ◌≤◌, ◌==◌, ◌^◌, Bool, List, [], ◌∷◌, ◌++◌, take, drop, length, Option, None, Some, Ok, Err, ap, sym, ◌∙◌, subst, arith, if◌then◌else◌, append-nil}
 use Rattle.std.specs.Option.{option_to_list}
 use Rattle.std.proofs.lemmas.List.{length-take-le}
 use Rattle.std.proofs.Math.Seq.{take-length}
@@ -9,11 +8,10 @@ use Rattle.mv_io.specs.Sink.{Appends, AppendsPrefix}
 use Rattle.mv_io.proofs.Appends.{Appends-then}
 use Rattle.mv_defs.specs.declared.head.UnitHead.{UnitHead}
 use Rattle.mv_defs.specs.Event.{whole_units, refusal_shown}
-use Rattle.mv_defs.specs.Facts.{fact}
 use Rattle.mv_defs.specs.Framing.{frame}
 use Rattle.mv_defs.specs.Rules.{checked_head, rules, unit_rules}
 use Rattle.mv_defs.specs.Units.{NalUnit, units, leading}
-use Rattle.mv_defs.specs.Verdict.{refused_leading, verdict, verdict_by}
+use Rattle.mv_defs.specs.Verdict.{verdict, verdict_by}
 use Rattle.mv_bytestream.specs.Scan.{Scan, StandsFor, handed_out}
 use Rattle.mv_bytestream.proofs.Written.{AppendsPrefix-then}
 use Rattle.mv_extract.specs.declared.error.ExtractError.{ExtractError}

@@ -1,13 +1,13 @@
 -- The answer that the bytes of an input decide, from the answer and its cause.
-use Rattle.std.proofs.Common.{◌≡◌, ℕ, ◌+◌, ◌-◌, ◌<◌, ◌≤◌, ◌⊎◌, inl, inr, Bool, true, false, nat_lt, List, [], ◌∷◌, ◌++◌, take, length, Option, None, Some, Result, Ok, Err, refl, ap, sym, ◌∙◌, subst, arith, IfSome, append_assoc, append-nil, length-append, if◌then◌else◌}
-use Rattle.std.specs.Prelude.{⊤, IsSomeAnd}
+use Rattle.std.proofs.Common.{◌≡◌, ℕ, ◌+◌, ◌-◌, ◌<◌, ◌≤◌, ◌⊎◌, inl, inr, Bool, true, false, nat_lt, List, [], ◌∷◌, ◌++◌, take, length, Option, None, Some, Result, Ok, Err, refl, ap, sym, ◌∙◌, arith, IfSome, append_assoc, append-nil, length-append, if◌then◌else◌}
+use Rattle.std.specs.Prelude.{⊤}
 use Rattle.std.proofs.lemmas.Bool.{le-ltb, lt-ltb}
 use Rattle.std.proofs.lemmas.List.{take_all, take_at}
 use Rattle.std.proofs.Math.Seq.{take-append-add}
 use Rattle.mv_io.specs.declared.refusal.Refusal.{Refusal}
 use Rattle.mv_io.specs.declared.rule.Rule.{Rule}
 use Rattle.mv_io.specs.Source.{Told, Takes}
-use Rattle.mv_defs.specs.Event.{Event, Accepted, Refused as RefusedFor, Shows, event, shown}
+use Rattle.mv_defs.specs.Event.{Event, Accepted, Refused as RefusedFor, event, shown}
 use Rattle.mv_defs.proofs.Shows.{shown-stays}
 use Rattle.mv_defs.proofs.Silent.{shows-only, shows-refusal}
 use Rattle.mv_extract.specs.declared.error.ExtractError.{ExtractError}

@@ -1,5 +1,5 @@
 -- What a call took from a source, read by read.
-use Rattle.std.proofs.Common.{◌≡◌, ℕ, Bool, true, false, List, [], ◌∷◌, ◌++◌, Option, None, Some, refl, sym, ap, ◌∙◌, subst, append_assoc, append-nil}
+use Rattle.std.proofs.Common.{ℕ, Bool, false, List, [], ◌++◌, Option, None, Some, refl, sym, ap, ◌∙◌, subst, append_assoc, append-nil}
 use Rattle.mv_io.specs.Source.{Told, Takes, SameEnd}
 use Rattle.mv_extract.specs.Call.{input_of, Took, AtEnd}
 

@@ -1,23 +1,21 @@
 -- What one unit more changes: of the units that were handled, of the verdict on them, and of what is written.
-use Rattle.std.proofs.Common.{◌≡◌, ℕ, ◌+◌, ◌-◌, ◌<◌, ◌≤◌, ◌==◌, Bool, true, false, cond, List, [], ◌∷◌, ◌++◌, take, drop, length, filter, map, Option, None, Some, Result, Ok, Err, refl, ap, sym, ◌∙◌, subst, arith, if◌then◌else◌, append-nil, length-append}
+use Rattle.std.proofs.Common.{◌≡◌, ℕ, ◌+◌, ◌-◌, ◌≤◌, ◌==◌, Bool, true, false, cond, List, [], ◌∷◌, ◌++◌, take, drop, length, filter, map, Option, None, Some, Result, Ok, Err, refl, ap, sym, ◌∙◌, arith, if◌then◌else◌, length-append}
 use Rattle.std.specs.Option.{option_map, option_or}
-use Rattle.std.proofs.lemmas.Bool.{eqb-true}
 use Rattle.std.proofs.lemmas.List.Elements.{filter-append}
-use Rattle.std.proofs.lemmas.List.{map-append, take-append-drop, length-take-le, length-drop, take-append-le, nil_from_length}
-use Rattle.std.proofs.Math.Seq.{take-append_seam, take-length}
+use Rattle.std.proofs.lemmas.List.{map-append, take-append-drop, length-take-le, length-drop, take-append-le}
+use Rattle.std.proofs.Math.Seq.{take-length}
 use Rattle.mv_io.specs.declared.rule.Rule.{Rule}
 use Rattle.mv_io.specs.declared.refusal.Refusal.{Refusal}
 use Rattle.mv_defs.specs.declared.head.UnitHead.{UnitHead}
-use Rattle.mv_defs.specs.Units.{NalUnit, units, leading, placed}
+use Rattle.mv_defs.specs.Units.{NalUnit, units, leading}
 use Rattle.mv_defs.specs.Head.{head}
-use Rattle.mv_defs.specs.Event.{StartsWith, whole_units, refusal_shown, front_refusal, last_refusal}
+use Rattle.mv_defs.specs.Event.{StartsWith, whole_units, refusal_shown, front_refusal}
 use Rattle.mv_defs.specs.Facts.{Fact, fact, facts, facts_behind}
 use Rattle.mv_defs.specs.Framing.{frame}
 use Rattle.mv_defs.specs.Rules.{checked_head, short_unit, emulation, long_unit, bad_head, unit_rules, rules}
 use Rattle.mv_defs.specs.Verdict.{refusal_by, refusal_of, refused_leading, verdict, verdict_by}
 use Rattle.mv_defs.specs.Extract.{kept, extract}
 use Rattle.mv_defs.proofs.FactLaws.{facts-append, verdict-push, extract-push, frame-append}
-use Rattle.mv_defs.proofs.Shows.{whole-stays}
 use Rattle.mv_extract.specs.Text.{text}
 
 -- a list that begins with another

@@ -1,4 +1,4 @@
-use Rattle.std.proofs.Common.{◌+◌, ◌≤◌, length, take, arith, length-take}
+use Rattle.std.proofs.Common.{length, take, arith, length-take}
 use Rattle.mv_extract.specs.Call.{output_of}
 use Rattle.mv_extract.proofs.Endings.{end-answers, gains-idle, gains-took, going-first, going-more, idle-silent, more-answers, piece-answers}
 use Rattle.mv_extract.proofs.Fed.{cause-after, cause-later}

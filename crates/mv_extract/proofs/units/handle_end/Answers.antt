@@ -1,4 +1,3 @@
-use Rattle.std.proofs.Common.{sym, ◌∙◌, ap, subst, arith}
 use Rattle.mv_extract.proofs.Fed.{ended-handled, end-handled, finish-refused, finish-memory}
 use Rattle.mv_extract.proofs.units.handle_end.Goals as goal
 

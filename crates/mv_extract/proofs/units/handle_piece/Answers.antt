@@ -1,4 +1,4 @@
-use Rattle.std.proofs.Common.{◌+◌, ◌-◌, ◌++◌, List, ℕ, false, length, take, drop, sym, ◌∙◌, subst, arith}
+use Rattle.std.proofs.Common.{◌+◌, ◌-◌, ◌++◌, false, length, take, drop, ◌∙◌, subst, arith}
 use Rattle.mv_extract.specs.Handling.{GainsPart, Leaves, LeavesRefused}
 use Rattle.mv_extract.specs.Text.{text_taken}
 use Rattle.mv_extract.proofs.Fed.{countable-part, feed-memory, feed-refused, idle-again, part-longer-piece, part-whole, piece-handled, within-rest}
