@@ -3,6 +3,7 @@ pub mod Codes
 pub mod Emulates
 pub mod Ends
 pub mod Piece
+pub mod Prevented
 pub mod Run
 pub mod Runs
 pub mod Steps

@@ -1,11 +1,35 @@
-//! mv_cli, an extractor of sub-bitstreams of MV-HEVC byte streams.
+//! mv_cli, an extractor of sub-bitstreams of MV-HEVC byte streams: `mv_cli extract 0` reads a byte stream
+//! from the standard input, and writes the units of its base layer on the standard output as they come.
 #![tactic(auto)]
 
 mod ending;
+mod line;
 mod run;
+#[cfg(test)]
+mod tests;
+#[cfg(test)]
+mod two_view_tests;
 
+use mv_io::{StdSink, StdSource};
+pub use run::{run, run_within};
+use std::env;
+use std::io::ErrorKind;
 use std::process::ExitCode;
 
-fn main(_rt: HostRuntime) -> ExitCode {
-    ExitCode::from(5)
+fn main(rt: HostRuntime) -> ExitCode {
+    let args = match env::args(&rt) {
+        Ok(args) => args,
+        Err(error) if error.kind() == ErrorKind::OutOfMemory => return ExitCode::from(5),
+        Err(_) => return ExitCode::from(9),
+    };
+    let words = match args.skip(1).collect::<Vec<String>>(rt.alloc()) {
+        Ok(words) => words,
+        Err(_) => return ExitCode::from(5),
+    };
+    let mut input = StdSource::new(&rt);
+    let mut output = StdSink::output(&rt);
+    let mut faults = StdSink::error(&rt);
+    let status = run(rt.alloc(), &words, &mut input, &mut output, &mut faults);
+    let flushed = output.flush();
+    ExitCode::from(run::with_flush(status, flushed.is_ok(), &mut faults))
 }
