@@ -1,2 +1,5 @@
+pub mod Codes
+pub mod Endings
 pub mod Readings
 pub mod Windows
+pub mod Written

@@ -1,9 +1,9 @@
 -- What a reader's steps do to the bits that are left.
-use Rattle.std.proofs.Common.{◌≡◌, ℕ, ◌+◌, ◌-◌, ◌*◌, ◌/◌, ◌%◌, ◌^◌, ◌<◌, ◌≤◌, Bool, Result, List, ◌∷◌, ◌++◌, length, Ok, Err, bit_and, bit_or, sym, ap, ap₂, ◌∙◌, arith, append_assoc, length-append}
+use Rattle.std.proofs.Common.{◌≡◌, ℕ, ◌+◌, ◌-◌, ◌*◌, ◌/◌, ◌%◌, ◌^◌, ◌<◌, ◌≤◌, Bool, Result, List, ◌∷◌, ◌++◌, length, Ok, Err, bit_and, bit_or, sym, ap, ap₂, ◌∙◌, arith, append_assoc, length-append, zero, suc, [], refl, IsTrue, ◌↔◌, nat_eq, eqb-true, eq-eqb}
 use Rattle.std.proofs.lemmas.Nat.{shr_split, shr_below, mod_below, pow_pos, pow-add, shl_whole, or_shifted, one_shl, and_mask}
 use Rattle.mv_syntax.specs.Bits.{Fault, short, ◌>>=◌, kept, u_bits, take_bits, byte_bits}
 use Rattle.mv_syntax.proofs.BitLaws.{u_bits-append, take_bits-u_bits, take_bits-short, take_bits-add, take_bits-printed, length-u_bits, length-byte_bits}
-use Rattle.mv_bits.specs.Cursor.{Cursor, window_bits}
+use Rattle.mv_bits.specs.Cursor.{Cursor, place, window_bits}
 
 pub same_cursor : {c d : Cursor} → c.total ≡ d.total → c.left ≡ d.left → c ≡ d
 same_cursor e f = let made : ℕ → List Bool → Cursor = λ t b. record { total = t; left = b } in ap₂ made e f
@@ -33,7 +33,7 @@ unfolding window_bits
 window_bits-taken n count word bytes h =
     let low : word % 2 ^ count < 2 ^ count = mod_below word (2 ^ count) (pow_pos count) in
     let parts : u_bits (n + count) word ≡ u_bits n (word / 2 ^ count) ++ u_bits count (word % 2 ^ count)
-        = ap (u_bits (n + count)) (sym (shr_split word count)) ∙ u_bits-append n count (word / 2 ^ count) (word % 2 ^ count) low
+    = ap (u_bits (n + count)) (sym (shr_split word count)) ∙ u_bits-append n count (word / 2 ^ count) (word % 2 ^ count) low
     in
     ap (take_bits n 0) (ap (λ b. b ++ byte_bits bytes) parts ∙ append_assoc (u_bits n (word / 2 ^ count)) (u_bits count (word % 2 ^ count)) (byte_bits bytes))
     ∙ take_bits-u_bits n (word / 2 ^ count) (u_bits count (word % 2 ^ count) ++ byte_bits bytes) (shr_below word n count h)
@@ -92,6 +92,65 @@ two_joined n high low left middle rest h k e f =
     let top : high < 2 ^ (n - 32) = (take_bits-printed (n - 32) left high middle e).1 in
     let bottom : low < 2 ^ 32 = (take_bits-printed 32 middle low rest f).1 in
     let value : bit_or (high * 2 ^ 32 % 2 ^ 64) low ≡ high * 2 ^ 32 + low
-        = ap (λ w. bit_or w low) (shl_whole high (n - 32) 32 64 top (omega arith)) ∙ or_shifted high 32 low bottom
+    = ap (λ w. bit_or w low) (shl_whole high (n - 32) 32 64 top (omega arith)) ∙ or_shifted high 32 low bottom
     in
     in_two n left h ∙ ap go e ∙ ap (kept (λ v. high * 2 ^ 32 + v)) f ∙ ap (λ v. Ok (v, rest)) (sym value)
+
+-- The fields of a reader that stands at a cursor, as its loops keep them.
+pub record Holds (count word : ℕ) (bytes : List ℕ) (whole : ℕ) (cursor : Cursor) : Type 0 where
+  pub narrow : count < 64
+  pub in_hand : word < 2 ^ count
+  pub within : count + 8 * length bytes ≤ 8 * whole
+  pub left : window_bits count word bytes ≡ cursor.left
+  pub total : 8 * whole ≡ cursor.total
+
+pub Holds-pulled : (count word first whole : ℕ) (bytes rest : List ℕ) (cursor : Cursor) → Holds count word bytes whole cursor → count < 56 → first < 2 ^ 8 → bytes ≡ first ∷ rest → Holds (count + 8) (bit_or (word * 2 ^ 8 % 2 ^ 64) first) rest whole cursor
+Holds-pulled count word first whole bytes rest cursor h room byte split =
+    let narrow : count < 57 = omega arith in
+    record {
+      narrow = omega arith;
+      in_hand = pulled_in_hand count word first narrow h.in_hand byte;
+      within = omega (arith, h.within, ap length split);
+      left = pulled_left count word first bytes rest cursor.left narrow h.in_hand byte split h.left;
+      total = h.total;
+    }
+
+pub Holds-from : (count word : ℕ) (bytes : List ℕ) (whole : ℕ) (cursor : Cursor) → (let seen : Cursor = record { total = 8 * whole; left = window_bits count word bytes } in seen ≡ cursor) → (count < 64) × (word < 2 ^ count) × (count + 8 * length bytes ≤ 8 * whole) → Holds count word bytes whole cursor
+Holds-from count word bytes whole cursor e h = record {
+  narrow = h.0;
+  in_hand = h.1;
+  within = h.2;
+  left = ap (λ (r : Cursor). r.left) e;
+  total = ap (λ (r : Cursor). r.total) e;
+}
+
+-- the bits taken, by the fields
+pub Holds-place : {count word : ℕ} {bytes : List ℕ} {whole : ℕ} {cursor : Cursor} → Holds count word bytes whole cursor → place cursor + (count + 8 * length bytes) ≡ 8 * whole
+Holds-place {count = count} {word = word} {bytes = bytes} h =
+    omega (arith, h.within, h.total, ap length h.left, length-window_bits count word bytes)
+
+pub Holds-aligned : {count word : ℕ} {bytes : List ℕ} {whole : ℕ} {cursor : Cursor} → Holds count word bytes whole cursor → IsTrue (nat_eq (count % 8) 0) ↔ (place cursor % 8 ≡ 0)
+Holds-aligned {count = count} {cursor = cursor} h =
+    let e = Holds-place h in
+    (λ t. let k : count % 8 ≡ 0 = eqb-true (count % 8) 0 t in omega arith, λ t. let k : count % 8 ≡ 0 = omega arith in eq-eqb (count % 8) 0 k)
+
+byte_bits-cons : (byte : ℕ) (bytes : List ℕ) → byte_bits (byte ∷ bytes) ≡ u_bits 8 byte ++ byte_bits bytes
+unfolding byte_bits
+byte_bits-cons byte bytes = refl
+
+-- no bit is in hand
+pub window_bits-none : (count word : ℕ) (bytes : List ℕ) → count ≡ 0 → length bytes ≡ 0 → window_bits count word bytes ≡ []
+unfolding window_bits u_bits byte_bits
+window_bits-none zero word [] e none = refl
+window_bits-none zero word (byte ∷ bytes) e none = absurd (omega arith)
+window_bits-none (suc count) word bytes e none = absurd (omega arith)
+
+pub window_bits-first : (count word first : ℕ) (bytes rest : List ℕ) → count ≡ 0 → bytes ≡ first ∷ rest → window_bits count word bytes ≡ window_bits 8 first rest
+unfolding window_bits u_bits
+window_bits-first zero word first bytes rest e split = ap byte_bits split ∙ byte_bits-cons first rest
+window_bits-first (suc count) word first bytes rest e split = absurd (omega arith)
+
+-- the bits taken and those left are whole bytes
+pub Holds-whole : {count word : ℕ} {bytes : List ℕ} {whole : ℕ} {cursor : Cursor} → Holds count word bytes whole cursor → place cursor + length cursor.left ≡ 8 * whole
+Holds-whole {count = count} {word = word} {bytes = bytes} h =
+    omega (arith, h.within, h.total, ap length h.left, length-window_bits count word bytes)

@@ -3,6 +3,8 @@
 
 mod no_bits;
 mod reader;
+#[cfg(test)]
+mod tests;
 mod writer;
 
 pub use no_bits::NoBits;

@@ -1,7 +1,6 @@
 -- What a scanner stands for: the bytes fed, the units handed out, and what of the bytes it keeps.
-use Rattle.std.specs.Prelude.{◌≡◌, ℕ, ◌≤◌, ◌<◌, ◌+◌, ◌-◌, Bool, true, false, List, [], ◌∷◌, ◌++◌, length, take, drop, replicate, Option, None, Some}
+use Rattle.std.specs.Prelude.{◌≡◌, ℕ, ◌≤◌, ◌<◌, ◌+◌, Bool, true, false, List, [], ◌++◌, length, take, drop, replicate, Option, None, Some}
 use Rattle.std.specs.Option.{option_to_list}
-use Rattle.std.specs.Bool.{⊤}
 use Rattle.mv_io.specs.declared.refusal.Refusal.{Refusal}
 use Rattle.mv_defs.specs.Units.{NalUnit, pieces, units}
 use Rattle.mv_defs.specs.Event.{last, refusal_shown, whole_units}

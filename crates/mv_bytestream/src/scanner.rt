@@ -6,7 +6,7 @@ ghost use Rattle.std.specs.Option.{option_map};
 ghost use Rattle.mv_io.specs.declared.refusal.Refusal.{Refusal};
 ghost use Rattle.mv_bytestream.specs.Scan.{RefusesEnd, RefusesPiece, StandsFor, TakesToUnit, nothing_fed};
 
-use crate::machine::{LONGEST_UNIT, Machine, Stage};
+use crate::machine::{Machine, Stage};
 use crate::splitting::ScanFault;
 use std::alloc::{AllocError, Global};
 use std::marker::Model;
@@ -28,16 +28,15 @@ pub struct Scanner {
 }
 
 impl Model for Scanner {
-    ghost use Rattle.std.specs.Prelude.{◌≤◌, vec_len};
     ghost use Rattle.mv_bytestream.specs.Scan.{Scan};
 
     ghost Value = { Scan };
 
-    ghost use Rattle.mv_bytestream.specs.Stages.{scan_of};
+    ghost use Rattle.mv_bytestream.specs.Stages.{IsHeld, scan_of};
 
     ghost view = { λ s. scan_of s.machine };
 
-    ghost invariant = { λ s. vec_len s.machine.unit ≤ 16777216 };
+    ghost invariant = { λ s. IsHeld s.machine };
 }
 
 impl Scanner {
@@ -83,16 +82,31 @@ impl Scanner {
         requires nothing_waits { self.old.waiting ≡ None }
         requires goes_on { self.old.ended ≡ false }
         requires countable { self.old.fed + length piece.now < 2 ^ 64 }
+        ensures within { IfOk result (λ n. n ≤ length piece.now) }
+        ensures some { IfOk result (λ n. 0 < length piece.now → 0 < n) }
         ensures stands { IfOk result (λ n. (s : List ℕ) → StandsFor self.old s → StandsFor self.new (s ++ take n piece.now)) }
         ensures takes { IfOk result (λ n. (s : List ℕ) → StandsFor self.old s → TakesToUnit s piece.now n) }
         ensures refused { IfErr result (RefusesPiece self.old self.new piece.now) }
         ensures again { (r : Refusal) → self.old.refusal ≡ Some r → (result ≡ Err (ScanFault.Refused r)) × (self.new ≡ self.old) }
+        ensures took { IfOk result (λ n. self.new.fed ≡ self.old.fed + n) }
         ensures counted { self.new.fed ≤ self.old.fed + length piece.now }
         ensures given { self.new.given ≡ self.old.given }
         ensures ended { self.new.ended ≡ self.old.ended }
     {
-        let _ = piece;
-        Err(ScanFault::Memory)
+        if let Stage::Refused(refusal) = self.machine.stage {
+            return Err(ScanFault::Refused(refusal));
+        }
+        self.machine.resume();
+        if self.machine.make_room(piece.len()).is_err() {
+            return Err(ScanFault::Memory);
+        }
+        match self.machine.take_piece(piece) {
+            Ok(count) => Ok(count),
+            Err(refusal) => {
+                self.machine.stage = Stage::Refused(refusal);
+                Err(ScanFault::Refused(refusal))
+            }
+        }
     }
 
     /// Hands out the finished unit that waits, once.
@@ -100,12 +114,9 @@ impl Scanner {
         ensures found { option_map found_unit result ≡ self.entry.now.waiting }
         ensures* after_borrow { sem 𝓛 (GivesOut self.entry) }
     {
-        match self.machine.stage {
-            Stage::Found => self.machine.stage = Stage::Given,
-            Stage::Last => self.machine.stage = Stage::Ended,
-            _ => return None,
+        if !self.machine.hand_out() {
+            return None;
         }
-        self.machine.given += 1;
         Some(Found {
             byte: self.machine.place,
             unit: &self.machine.unit,
@@ -130,6 +141,16 @@ impl Scanner {
         ensures given { self.new.given ≡ self.old.given }
         ensures fed { self.new.fed ≡ self.old.fed }
     {
-        Err(ScanFault::Memory)
+        if let Stage::Refused(refusal) = self.machine.stage {
+            return Err(ScanFault::Refused(refusal));
+        }
+        self.machine.resume();
+        match self.machine.finish() {
+            None => Ok(()),
+            Some(refusal) => {
+                self.machine.stage = Stage::Refused(refusal);
+                Err(ScanFault::Refused(refusal))
+            }
+        }
     }
 }

@@ -36,7 +36,7 @@ lead-lead_all : (a : ℕ) (u : List ℕ) (qs : List (List ℕ)) → lead a (lead
 lead-lead_all a u [] = refl
 lead-lead_all a u (q ∷ qs) = refl
 
-one_nonzero : (a : ℕ) → IsTrimmed (a ∷ []) → is_zero a ≡ false
+pub one_nonzero : (a : ℕ) → IsTrimmed (a ∷ []) → is_zero a ≡ false
 one_nonzero a h = go (is_zero a) (trimmed-tail a [] h).0
   where
     go : (t : Bool) → (t && true) ≡ false → t ≡ false

@@ -1,3 +1,4 @@
+pub mod Escaped
 pub mod Behind
 pub mod Early
 pub mod FactLaws
@@ -10,3 +11,4 @@ pub mod Shown
 pub mod Shows
 pub mod Silent
 pub mod Trimmed
+pub mod Unescaped

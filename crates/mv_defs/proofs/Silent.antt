@@ -59,7 +59,7 @@ unfolding has_emulation
 emulates-behind [] = refl
 emulates-behind (a ∷ p) = or_right _ _ (emulates-behind p)
 
-take-short : (n : ℕ) (s : List ℕ) → length s ≤ n → take n s ≡ s
+pub take-short : (n : ℕ) (s : List ℕ) → length s ≤ n → take n s ≡ s
 take-short zero [] h = refl
 take-short (suc n) [] h = refl
 take-short zero (a ∷ s) h = absurd (omega arith)
@@ -86,7 +86,7 @@ early-some f h = go (emulation f.unit.bytes) (long_unit f.unit.bytes) refl refl 
     go false false is il (inr e) = absurd (true≢false (sym e))
 
 -- a fact that isn't refused early breaks neither
-early-none : (f : Fact) → refusal_by early_rules f ≡ None → (emulation f.unit.bytes ≡ false) × (long_unit f.unit.bytes ≡ false)
+pub early-none : (f : Fact) → refusal_by early_rules f ≡ None → (emulation f.unit.bytes ≡ false) × (long_unit f.unit.bytes ≡ false)
 early-none f h = go (emulation f.unit.bytes) (long_unit f.unit.bytes) (sym (early-is f) ∙ h)
   where
     go : (e l : Bool) → early_of f e l ≡ None → (e ≡ false) × (l ≡ false)
@@ -129,12 +129,12 @@ abbrev of_front : Option ℕ → Option Refusal → Option Refusal
 of_front o v = elim o [ Some at ↦ Some (refused_leading at) | None ↦ v ]
 
 -- what isn't shown
-nothing_at : (x y z : Option Refusal) → option_or x (option_or y z) ≡ None → (x ≡ None) × (y ≡ None) × (z ≡ None)
+pub nothing_at : (x y z : Option Refusal) → option_or x (option_or y z) ≡ None → (x ≡ None) × (y ≡ None) × (z ≡ None)
 nothing_at (Some x) y z h = absurd (cc)
 nothing_at None (Some y) z h = absurd (cc)
 nothing_at None None z h = (refl, refl, h)
 
-no_front : (o : Option ℕ) → option_map refused_leading o ≡ None → o ≡ None
+pub no_front : (o : Option ℕ) → option_map refused_leading o ≡ None → o ≡ None
 no_front None h = refl
 no_front (Some at) h = absurd (cc)
 

@@ -1,13 +1,14 @@
 -- The laws of the bit codes: what was printed reads back before any rest, what reads was printed and is in range,
 -- and a reading that fails is short exactly where no code stands.
-use Rattle.std.proofs.Common.{◌≡◌, ℕ, zero, suc, ◌+◌, ◌-◌, ◌*◌, ◌/◌, ◌%◌, ◌^◌, ◌<◌, ◌≤◌, ◌⊎◌, Bool, true, false, cond, nat_eq, List, [], ◌∷◌, ◌++◌, length, replicate, ℤ, pos, negsuc, Result, Ok, Err, refl, sym, ap, ◌∙◌, arith, ◌<ℤ◌, ap₂, subst, inl, inr, lit<, mod-lt, mod-eq_of_lt, pow-suc, add-mul, mul_assoc, pow_mono, lt-ltb, le-ltb, suc-le-suc, le_antisymm, append_assoc, length-append, add-one, neg_ℤ}
+use Rattle.std.proofs.Common.{◌≡◌, ℕ, zero, suc, ◌+◌, ◌-◌, ◌*◌, ◌/◌, ◌%◌, ◌^◌, ◌<◌, ◌≤◌, ◌⊎◌, Bool, true, false, cond, nat_eq, List, [], ◌∷◌, ◌++◌, length, replicate, ℤ, pos, negsuc, Result, Ok, Err, refl, sym, ap, ◌∙◌, arith, ◌<ℤ◌, ap₂, subst, inl, inr, lit<, mod-lt, mod-eq_of_lt, pow-suc, add-mul, mul_assoc, pow_mono, lt-ltb, le-ltb, suc-le-suc, le_antisymm, append_assoc, length-append, add-one, neg_ℤ, not, ◌||◌, ◌≢◌, ne_eqb, get_or}
 use Rattle.std.proofs.lemmas.Int.{ints}
 use Rattle.std.proofs.lemmas.Bool.{cases_lt}
 use Rattle.std.proofs.lemmas.List.{length-replicate}
 use Rattle.std.specs.Int.{bit_at}
+use Rattle.std.specs.List.{list_any}
 use Rattle.std.proofs.lemmas.Nat.{mod-pow-add, shr_split, shr_high, pow_pos}
-use Rattle.std.proofs.lemmas.Nat.Bits.{bit_at_cat_low, bit_at_cat_high}
-use Rattle.mv_syntax.specs.Bits.{Fault, short, ◌>>=◌, kept, bit, u_bits, take_bits, halvings, ue_zeros, ue_bits, take_ue_from, take_ue, HasNoUe, se_value, se_code, se_bits, take_se, align_bits, trailing_bits, byte_bits}
+use Rattle.std.proofs.lemmas.Nat.Bits.{bit_at_cat_low, bit_at_cat_high, bit_at-zero}
+use Rattle.mv_syntax.specs.Bits.{Fault, short, ◌>>=◌, kept, bit, u_bits, take_bits, halvings, ue_zeros, ue_bits, take_ue_from, take_ue, HasNoUe, se_value, se_code, se_bits, take_se, align_bits, trailing_bits, has_one, byte_bits}
 
 -- a reading has one value
 pub same_ok : {A : Type 0} {r : Result A Fault} {x y : A} → r ≡ Ok x → r ≡ Ok y → x ≡ y
@@ -79,6 +80,43 @@ u_bits-append (suc m) n v w h =
     let less : m + n - n ≡ m = omega arith in
     rw e (ap₂ (λ x rest. nat_eq x 1 ∷ rest) (bit_at_cat_high v n w (m + n) h below ∙ ap (bit_at v) less) (u_bits-append m n v w h))
 
+pub u_bits-zero : (n : ℕ) → u_bits n 0 ≡ replicate n false
+unfolding u_bits
+u_bits-zero zero = refl
+u_bits-zero (suc n) = ap₂ (λ x rest. nat_eq x 1 ∷ rest) (bit_at-zero n) (u_bits-zero n)
+
+-- a number whose highest one is the first of its bits
+pub u_bits-leading : (n v : ℕ) → 2 ^ n ≤ v → v < 2 ^ suc n → u_bits (suc n) v ≡ true ∷ u_bits n (v - 2 ^ n)
+unfolding u_bits
+u_bits-leading n v low high =
+    let rest = v - 2 ^ n in
+    let below : rest < 2 ^ n = omega (arith, pow-suc 2 n) in
+    let parts : 1 * 2 ^ n + rest ≡ v = omega arith in
+    let top : bit_at v n ≡ 1
+    = ap (λ w. bit_at w n) (sym parts) ∙ ap (λ q. q % 2) (shr_high 1 n rest below)
+    in
+    ap₂ (λ x b. nat_eq x 1 ∷ b)
+    top
+    (u_bits-same n v rest (λ i h. ap (λ w. bit_at w i) (sym parts) ∙ bit_at_cat_low 1 n rest i h))
+
+-- the highest one, and zeros
+pub u_bits-one : (n : ℕ) → u_bits (suc n) (2 ^ n) ≡ true ∷ replicate n false
+u_bits-one n =
+    let none : 2 ^ n - 2 ^ n ≡ 0 = omega arith in
+    u_bits-leading n (2 ^ n) (omega arith) (omega (arith, pow-suc 2 n, pow_pos n))
+    ∙ ap (λ w. true ∷ u_bits n w) none
+    ∙ ap (λ b. true ∷ b) (u_bits-zero n)
+
+-- the greatest number is all ones
+pub u_bits-ones : (n : ℕ) → u_bits n (2 ^ n - 1) ≡ replicate n true
+unfolding u_bits
+u_bits-ones zero = refl
+u_bits-ones (suc n) =
+    let rest : 2 ^ suc n - 1 - 2 ^ n ≡ 2 ^ n - 1 = omega (arith, pow-suc 2 n, pow_pos n) in
+    u_bits-leading n (2 ^ suc n - 1) (omega (arith, pow-suc 2 n, pow_pos n)) (omega (arith, pow_pos (suc n)))
+    ∙ ap (λ w. true ∷ u_bits n w) rest
+    ∙ ap (λ b. true ∷ b) (u_bits-ones n)
+
 -- A list of bits is shorter than n, or begins with the n bits of a number.
 pub split_bits : (n : ℕ) (b : List Bool) → (length b < n) ⊎ ((v : ℕ) × (rest : List Bool) × (b ≡ u_bits n v ++ rest) × (v < 2 ^ n))
 unfolding u_bits
@@ -128,6 +166,12 @@ take_bits-failed n high b fault e =
           let f : take_bits n high b ≡ Ok (high * 2 ^ n + w % 2 ^ n, left) = rw same (take_bits-after n w high left) in
           absurd (cc)
     ]
+
+-- the n bits of two numbers in range are the same where the numbers are
+pub u_bits-injective : (n v w : ℕ) → v < 2 ^ n → w < 2 ^ n → u_bits n v ≡ u_bits n w → v ≡ w
+u_bits-injective n v w h k e =
+    let f : take_bits n 0 (u_bits n v ++ []) ≡ Ok (w, []) = ap (λ b. take_bits n 0 (b ++ [])) e ∙ take_bits-u_bits n w [] k in
+    ap (λ r. r.0) (same_ok (take_bits-u_bits n v [] h) f)
 
 -- the bits above the next n are added as they stand
 pub take_bits-high : (n high : ℕ) (b : List Bool) → take_bits n high b ≡ kept (λ v. high * 2 ^ n + v) (take_bits n 0 b)
@@ -297,6 +341,19 @@ take_ue-failed b fault e =
       | inr (w, left, same, h) ↦ let f : take_ue b ≡ Ok (w, left) = ap take_ue same ∙ take_ue-ue_bits w left h in absurd (cc)
     ]
 
+-- the code of c - 1, where 2 ^ z ≤ c < 2 ^ (z + 1), is the number c in 2 z + 1 bits
+pub ue_bits-number : (z c : ℕ) → z ≤ 31 → 2 ^ z ≤ c → c < 2 ^ suc z → ue_bits (c - 1) ≡ u_bits (z + suc z) c
+ue_bits-number z c most low high =
+    let rest = c - 2 ^ z in
+    let below : rest < 2 ^ z = omega (arith, pow-suc 2 z) in
+    let value : 2 ^ z - 1 + rest ≡ c - 1 = omega (arith, pow_pos z) in
+    let whole : 0 * 2 ^ suc z + c ≡ c = omega arith in
+    ap ue_bits (sym value)
+    ∙ ue_bits-is z rest most below
+    ∙ sym (ap₂ (λ a b. a ++ b) (u_bits-zero z) (u_bits-leading z c low high))
+    ∙ sym (u_bits-append z (suc z) 0 c high)
+    ∙ ap (u_bits (z + suc z)) whole
+
 -- ---- se(v)
 se_value-odd : (n : ℕ) → se_value (2 * n + 1) ≡ pos (n + 1)
 unfolding se_value
@@ -343,6 +400,12 @@ pub se_code-range : (x : ℤ) → negsuc (2 ^ 31 - 1) <ℤ x → x <ℤ pos (2 ^
 unfolding se_code
 se_code-range (pos n) low high = omega (arith, ints)
 se_code-range (negsuc n) low high = omega (arith, ints)
+
+-- a number with a code is above -2 ^ 31
+pub se_code-above : (x : ℤ) → se_code x < 2 ^ 32 - 1 → negsuc (2 ^ 31 - 1) <ℤ x
+unfolding se_code
+se_code-above (pos n) h = omega (arith, ints)
+se_code-above (negsuc n) h = omega (arith, ints)
 
 signed_range : (sign : Bool) (n : ℕ) → n < 2 ^ 31 → (negsuc (2 ^ 31 - 1) <ℤ cond sign (pos n) (neg_ℤ (pos n))) × (cond sign (pos n) (neg_ℤ (pos n)) <ℤ pos (2 ^ 31))
 signed_range true n h = (omega (arith, ints), omega (arith, ints))
@@ -397,7 +460,42 @@ length-byte_bits [] = refl
 length-byte_bits (byte ∷ bytes) =
     omega (arith, length-append (u_bits 8 byte) (byte_bits bytes), length-u_bits 8 byte, length-byte_bits bytes)
 
+-- after alignment the place is at the end of its byte
+pub length-align_bits : (x : Bool) (place : ℕ) → (place + length (align_bits x place)) % 8 ≡ 0
+unfolding align_bits
+length-align_bits x place = omega (arith, length-replicate ((8 - place % 8) % 8) x)
+
 -- after trailing bits the place is at the end of its byte
 pub length-trailing_bits : (place : ℕ) → (place + length (trailing_bits place)) % 8 ≡ 0
 unfolding trailing_bits align_bits
 length-trailing_bits place = omega (arith, length-replicate ((8 - (place + 1) % 8) % 8) false)
+
+-- ---- set bits
+pub has_one-append : (a b : List Bool) → has_one (a ++ b) ≡ has_one a || has_one b
+unfolding has_one
+has_one-append [] b = refl
+has_one-append (true ∷ a) b = refl
+has_one-append (false ∷ a) b = has_one-append a b
+
+top_or_low : (d low p : ℕ) (b : Bool) → d < 2 → 0 < p → b ≡ not (nat_eq low 0) → nat_eq d 1 || b ≡ not (nat_eq (d * p + low) 0)
+top_or_low zero low p b h some e = let same : 0 * p + low ≡ low = omega arith in e ∙ ap (λ n. not (nat_eq n 0)) (sym same)
+top_or_low (suc zero) low p b h positive e =
+    let some : 1 * p + low ≢ 0 = omega arith in sym (ap not (ne_eqb (1 * p + low) 0 some))
+top_or_low (suc (suc d)) low p b h some e = absurd (omega arith)
+
+-- a number of n bits has a set bit, unless it is 0
+pub has_one-u_bits : (n v : ℕ) → has_one (u_bits n v) ≡ not (nat_eq (v % 2 ^ n) 0)
+unfolding has_one u_bits
+has_one-u_bits zero v = let e : v % 2 ^ 0 ≡ 0 = omega arith in rw e refl
+has_one-u_bits (suc n) v =
+    top_or_low (bit_at v n) (v % 2 ^ n) (2 ^ n) (has_one (u_bits n v)) (mod-lt (v / 2 ^ n) (lit< tt)) (pow_pos n) (has_one-u_bits n v)
+    ∙ ap (λ w. not (nat_eq w 0)) (sym (mod-suc_bits n v))
+
+-- a set bit among those of bytes is in one that is not 0
+pub has_one-byte_bits : (bytes : List ℕ) → ((i : ℕ) → get_or bytes i 0 < 256) → has_one (byte_bits bytes) ≡ list_any (λ byte. not (nat_eq byte 0)) bytes
+unfolding has_one byte_bits
+has_one-byte_bits [] h = refl
+has_one-byte_bits (byte ∷ bytes) h =
+    let low : byte % 2 ^ 8 ≡ byte = mod-eq_of_lt (h 0) in
+    has_one-append (u_bits 8 byte) (byte_bits bytes)
+    ∙ ap₂ (λ a b. a || b) (has_one-u_bits 8 byte ∙ ap (λ n. not (nat_eq n 0)) low) (has_one-byte_bits bytes (λ i. h (suc i)))

@@ -1,5 +1,5 @@
 -- What holds of every table: of three answers exactly one, both round trips, and the split between two fields.
-use Rattle.std.specs.Prelude.{◌≡◌, ℕ, List, ◌++◌, ◌⊎◌, ◌↔◌, Bool, Ok, Err}
+use Rattle.std.specs.Prelude.{◌≡◌, ℕ, List, ◌++◌, ◌⊎◌, ◌↔◌, Bool, Ok}
 use Rattle.mv_syntax.specs.Table.{Table, ◌>>=◌, bits_of, Valid, Reads, Cut, read}
 
 -- Exactly one of three holds: one value reads, one rule cuts, or neither, which is the syntax rule.

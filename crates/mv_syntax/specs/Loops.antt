@@ -1,5 +1,5 @@
 -- Loops of a table, and what is left of them at an index, as the code that reads them meets them.
-use Rattle.std.specs.Prelude.{◌≡◌, ℕ, zero, suc, ◌+◌, ◌-◌, Bool, List, [], ◌∷◌, ◌++◌, length, Result, Ok, Err, refl}
+use Rattle.std.specs.Prelude.{◌≡◌, ℕ, zero, suc, ◌+◌, ◌-◌, Bool, List, [], ◌∷◌, ◌++◌, length, Result, Ok, refl}
 use Rattle.std.proofs.Common.{ap}
 use Rattle.mv_syntax.specs.Bits.{Fault}
 use Rattle.mv_syntax.specs.Bits as bits
@@ -30,6 +30,10 @@ items first n t = repeat (λ turn. first + turn) n (λ before. t (first + length
 unfoldable pub items_after : {A : Type 0} → ℕ → ℕ → (ℕ → List A → Table A) → Table (List A)
 items_after first n t = repeat (λ turn. first + turn) n (λ before. t (first + length before) before)
 
+-- A loop of n turns that fills one list, where turn k has the index that the numbering gives it. Its body has the turn.
+unfoldable pub items_numbered : {A : Type 0} → (ℕ → ℕ) → ℕ → (ℕ → Table A) → Table (List A)
+items_numbered index n t = repeat index n (λ before. t (length before))
+
 -- A loop of n turns from index `first` that fills two lists, an item of each in each turn. Its body has the index.
 unfoldable pub columns : {A B : Type 0} → ℕ → ℕ → (ℕ → Table (A × B)) → Table (List A × List B)
 columns first n t = shaped unzipped zipped zipped-unzipped (repeat (λ turn. first + turn) n (λ before. t (first + length before)))
@@ -38,7 +42,7 @@ columns first n t = shaped unzipped zipped zipped-unzipped (repeat (λ turn. fir
 unfoldable pub columns_after : {A B : Type 0} → ℕ → ℕ → (ℕ → List A → List B → Table (A × B)) → Table (List A × List B)
 columns_after first n t =
     shaped unzipped zipped zipped-unzipped
-      (repeat (λ turn. first + turn) n (λ before. t (first + length before) (unzipped before).0 (unzipped before).1))
+    (repeat (λ turn. first + turn) n (λ before. t (first + length before) (unzipped before).0 (unzipped before).1))
 
 -- What n more turns of a loop read from bits b, from index i on and behind the items so far.
 abbrev pub turns_of_items : {A : Type 0} → (ℕ → List A → Table A) → ℕ → ℕ → List A → List Bool → Result (List A × List Bool) Fault
@@ -46,7 +50,7 @@ turns_of_items t zero i before b = Ok (before, b)
 turns_of_items t (suc n) i before b = bits.◌>>=◌ (read (t i before) b) (λ x. turns_of_items t n (i + 1) (before ++ x.0 ∷ []) x.1)
 
 abbrev pub turns_of_columns :
-  {A B : Type 0} → (ℕ → List A → List B → Table (A × B)) → ℕ → ℕ → List A → List B → List Bool → Result ((List A × List B) × List Bool) Fault
+    {A B : Type 0} → (ℕ → List A → List B → Table (A × B)) → ℕ → ℕ → List A → List B → List Bool → Result ((List A × List B) × List Bool) Fault
 turns_of_columns t zero i ones others b = Ok ((ones, others), b)
 turns_of_columns t (suc n) i ones others b =
     bits.◌>>=◌ (read (t i ones others) b) (λ x. turns_of_columns t n (i + 1) (ones ++ x.0.0 ∷ []) (others ++ x.0.1 ∷ []) x.1)
@@ -62,5 +66,5 @@ unfoldable pub rest_of_columns : {A B : Type 0} → (ℕ → Table (A × B)) →
 rest_of_columns t i end ones others b = turns_of_columns (λ j _ _. t j) (end - i) i ones others b
 
 unfoldable pub rest_of_columns_after :
-  {A B : Type 0} → (ℕ → List A → List B → Table (A × B)) → ℕ → ℕ → List A → List B → List Bool → Result ((List A × List B) × List Bool) Fault
+    {A B : Type 0} → (ℕ → List A → List B → Table (A × B)) → ℕ → ℕ → List A → List B → List Bool → Result ((List A × List B) × List Bool) Fault
 rest_of_columns_after t i end ones others b = turns_of_columns t (end - i) i ones others b

@@ -1,9 +1,10 @@
 -- Whole payloads: the size limit, a table, an opaque tail where the table's value says so, and the trailing bits.
-use Rattle.std.specs.Prelude.{◌≡◌, ℕ, ◌+◌, ◌-◌, ◌*◌, ◌≤◌, ◌<◌, Bool, true, false, cond, List, [], ◌∷◌, ◌++◌, length, Option, Some, None, is_some, Result, Ok, Err, ◌⊎◌, if◌then◌else◌, nat_lt}
+use Rattle.std.specs.Prelude.{◌≡◌, ℕ, ◌+◌, ◌-◌, ◌*◌, ◌≤◌, ◌<◌, Bool, true, false, List, [], ◌∷◌, ◌++◌, length, pos, Option, Some, None, is_some, Result, Ok, Err, ◌⊎◌, if◌then◌else◌, nat_lt}
 use Rattle.mv_syntax.specs.Bits.{Fault, short, breaks, trailing_bits, has_one}
 use Rattle.mv_syntax.specs.Bits as bits
-use Rattle.mv_syntax.specs.Table.{Table, Valid, bits_of, Reads, Cut, read}
+use Rattle.mv_syntax.specs.Table.{Table, Valid, bits_of, Cut, read}
 use Rattle.mv_syntax.specs.Laws.{ExactlyOneOf}
+use Rattle.mv_syntax.specs.Lines.{Line, lines}
 
 -- The greatest payload of a parameter set, in bits: 65,536 bytes (this project's profile).
 abbrev pub size_limit : ℕ
@@ -81,3 +82,19 @@ PayloadExactlyOne p b = ExactlyOneOf (ReadsPayload p b) (CutPayload p b)
 pub record PayloadRoundTrips {A : Type 0} (p : Payload A) : Type 0 where
   pub written_reads : (v : A × Option (List Bool)) → ValidPayload p v → read_payload p (payload_bits p v) ≡ Ok v
   pub read_writes : (b : List Bool) (v : A × Option (List Bool)) → read_payload p b ≡ Ok v → ValidPayload p v × (b ≡ payload_bits p v)
+
+-- What read_end answers of a tail, bit by bit: with the bits of the tail so far, from the place behind them on.
+unfoldable pub rest_of_tail : ℕ → List Bool → List Bool → Result (Option (List Bool)) Fault
+rest_of_tail place tail [] = Err short
+rest_of_tail place tail (x ∷ b) =
+    if has_one b then rest_of_tail (place + 1) (tail ++ x ∷ []) b
+    else (if same_bits (x ∷ b) (trailing_bits place) then Ok (Some tail) else Err short)
+
+-- A tail is shown by its number of bits.
+abbrev pub tail_line : Option (List Bool) → List Line
+tail_line (Some tail) = record { name = "tail"; indexes = []; value = pos (length tail) } ∷ []
+tail_line None = []
+
+-- The lines of a payload: those of its fields, and for a tail its number of bits.
+abbrev pub payload_lines : {A : Type 0} → Payload A → A × Option (List Bool) → List Line
+payload_lines p v = lines p.fields v.0 ++ tail_line v.1

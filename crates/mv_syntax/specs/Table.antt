@@ -1,12 +1,11 @@
 -- Syntax tables as values: a table says what is printed for a value, which values are valid, what reads, which rule cuts,
 -- and the reader on lists of bits. Each of these is a recursion on the table (clause 7.3 and annex F.7.3 of H.265).
-use Rattle.std.specs.Prelude.{◌≡◌, ℕ, zero, suc, ◌+◌, ◌-◌, ◌^◌, ◌<◌, Bool, true, false, List, [], ◌∷◌, ◌++◌, length, ℤ, Option, Some, None, Result, Ok, Err, ◌⊎◌, if◌then◌else◌}
+use Rattle.std.specs.Prelude.{◌≡◌, ℕ, zero, suc, ◌-◌, ◌^◌, ◌<◌, Bool, true, false, List, [], ◌∷◌, ◌++◌, length, ℤ, Option, Some, None, Result, Ok, Err, ◌⊎◌, if◌then◌else◌}
 use Prim.Native.String.{String}
 use Rattle.mv_syntax.specs.Bits.{Fault, short, breaks, kept, u_bits, take_bits, ue_bits, take_ue, se_code, se_bits, take_se}
 use Rattle.mv_syntax.specs.Bits as bits
 
 infixl 10 ◌>>=◌
-
 -- A table of coded fields whose value is an A.
 pub data Table : Type 0 → Type 1 where
   -- u(n): n bits, most significant first; with n = 0 no bits and the value 0

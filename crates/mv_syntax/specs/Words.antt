@@ -1,8 +1,7 @@
 -- The words that tables are written with, beside the constructors.
-use Rattle.std.specs.Prelude.{◌≡◌, ℕ, zero, suc, ◌+◌, ◌-◌, Bool, true, false, not, List, [], ◌∷◌, ◌++◌, length, Option, Some, None, nat_lt, nat_eq, refl, if◌then◌else◌}
-use Rattle.std.proofs.Common.{ap}
+use Rattle.std.specs.Prelude.{ℕ, suc, ◌+◌, ◌-◌, Bool, not, List, [], ◌∷◌, length, Option, Some, None, nat_lt, nat_eq, if◌then◌else◌}
 use Rattle.mv_syntax.specs.Bits.{align_bits, trailing_bits}
-use Rattle.mv_syntax.specs.Table.{Table, refused, checked, ◌>>=◌, repeat, padded, shaped}
+use Rattle.mv_syntax.specs.Table.{Table, refused, checked, ◌>>=◌, repeat, padded}
 
 -- `t ! r ∶ bad`: the field t, which breaks rule r where its value is bad.
 infixl 20 ◌!◌∶◌
@@ -69,23 +68,6 @@ for_below a n t = repeat (λ turn. a + turn) (n - a) (λ before. t (a + length b
 -- than a number that may be 0, it is `for_below`.
 abbrev pub for_range : {A : Type 0} → ℕ → ℕ → (ℕ → List A → Table A) → Table (List A)
 for_range a b t = repeat (λ turn. a + turn) (suc b - a) (λ before. t (a + length before) before)
-
--- A list of pairs as two lists, and back.
-abbrev pub unzipped : {A B : Type 0} → List (A × B) → List A × List B
-unzipped [] = ([], [])
-unzipped (x ∷ xs) = (x.0 ∷ (unzipped xs).0, x.1 ∷ (unzipped xs).1)
-
-abbrev pub both_lists : {A B : Type 0} → List A → List B → List (A × B)
-both_lists [] bs = []
-both_lists (a ∷ others) [] = []
-both_lists (a ∷ others) (b ∷ bs) = (a, b) ∷ both_lists others bs
-
-abbrev pub zipped : {A B : Type 0} → List A × List B → List (A × B)
-zipped lists = both_lists lists.0 lists.1
-
-pub zipped-unzipped : {A B : Type 0} (xs : List (A × B)) → zipped (unzipped xs) ≡ xs
-zipped-unzipped [] = refl
-zipped-unzipped (x ∷ xs) = ap (λ l. x ∷ l) (zipped-unzipped xs)
 
 -- Bits equal to x up to a byte's end, behind t where the test holds of its value.
 abbrev pub aligned_where : {A : Type 0} → (A → Bool) → Bool → Table A → Table A

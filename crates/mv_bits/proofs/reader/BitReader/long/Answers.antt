@@ -1,4 +1,4 @@
-use Rattle.std.proofs.Common.{◌≡◌, ◌≤◌, ap, sym, ◌∙◌, arith}
+use Rattle.std.proofs.Common.{◌≤◌, ap, sym, ◌∙◌, arith}
 use Rattle.mv_syntax.specs.Bits.{take_bits}
 use Rattle.mv_bits.specs.Cursor.{Cursor}
 use Rattle.mv_bits.proofs.Readings.{Takes-refused}
@@ -22,6 +22,7 @@ returns-in_err-low c =
 pub returns : goal.returns
 returns c =
     let wide : 32 ≤ c.args.n = omega (arith, c.requires.0) in
-    let same = ap (λ (r : Cursor). take_bits c.args.n 0 r.left) (sym c.fork-ahead.ensures) in
-    (same ∙ two_joined c.args.n c.in_ok-high.high c.in_ok-low.low c.fork-ahead.result.left c.short.new.self.left c.short-2.new.self.left wide c.requires.1 c.in_ok-high.ensures.0 c.in_ok-low.ensures.0,
-    c.in_ok-low.ensures.1 ∙ c.in_ok-high.ensures.1 ∙ ap (λ (r : Cursor). r.total) c.fork-ahead.ensures)
+    let same = ap (λ (r : Cursor). take_bits c.args.n 0 r.left) (sym c.fork-ahead.ensures) in (
+      same ∙ two_joined c.args.n c.in_ok-high.high c.in_ok-low.low c.fork-ahead.result.left c.short.new.self.left c.short-2.new.self.left wide c.requires.1 c.in_ok-high.ensures.0 c.in_ok-low.ensures.0,
+      c.in_ok-low.ensures.1 ∙ c.in_ok-high.ensures.1 ∙ ap (λ (r : Cursor). r.total) c.fork-ahead.ensures,
+    )

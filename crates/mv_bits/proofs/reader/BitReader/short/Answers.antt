@@ -1,30 +1,23 @@
-use Rattle.std.proofs.Common.{◌<◌, ◌≡◌, ◌∙◌, ◌^◌, ◌≤◌, sym, ap, arith, rules, ◌∷◌}
-use Rattle.mv_bits.proofs.Windows.{same_cursor, pulled_left, pulled_in_hand, takes_in_hand, takes_past_end}
-use Rattle.mv_bits.specs.Cursor.{window_bits}
+use Rattle.std.proofs.Common.{◌<◌, ◌≡◌, ◌∙◌, ◌^◌, ◌∷◌, sym, ap, arith, rules}
+use Rattle.mv_bits.proofs.Windows.{same_cursor, Holds-pulled, takes_in_hand, takes_past_end}
 use Rattle.mv_bits.proofs.reader.BitReader.short.Goals as goal
 
 pub returns-in_default : goal.returns-in_default
 returns-in_default c =
     let now = c.pull.self-inside in
-    let kept = c.pull.invariant in
-    (takes_past_end c.args.n now.count now.word now.bytes.now c.args.self.now.left c.pull-test.true (search rules) kept.left,
-    same_cursor kept.total kept.left)
+    let kept = c.pull.invariant in (
+      takes_past_end c.args.n now.count now.word now.bytes.now c.args.self.now.left c.pull-test.true (search rules) kept.left,
+      same_cursor kept.total kept.left,
+    )
 
 pub pull-preserved : goal.pull-preserved
 pull-preserved c =
     let now = c.pull.self-inside in
-    let kept = c.pull.invariant in
-    let narrow : now.count < 57 = omega (arith, c.requires) in
+    let room : now.count < 56 = omega (arith, c.requires) in
     let byte : c.from.result < 2 ^ 8 = search rules in
-    let split = c.in-Some.ensures.cases.0 in
     let first : c.from.result ≡ c.in-Some.first.now = c.from.ensures in
-    record {
-      narrow = omega arith;
-      in_hand = pulled_in_hand now.count now.word c.from.result narrow kept.in_hand byte;
-      within = omega (arith, kept.within, c.in-Some.ensures.cases.1);
-      left = pulled_left now.count now.word c.from.result now.bytes.now c.in-Some.rest.now c.args.self.now.left narrow kept.in_hand byte (split ∙ ap (λ b. b ∷ c.in-Some.rest.now) (sym first)) kept.left;
-      total = kept.total
-    }
+    Holds-pulled now.count now.word c.from.result now.whole now.bytes.now c.in-Some.rest.now c.args.self.now c.pull.invariant room byte
+    (c.in-Some.ensures.cases.0 ∙ ap (λ b. b ∷ c.in-Some.rest.now) (sym first))
 
 pub returns : goal.returns
 returns c =

@@ -1,0 +1,6 @@
+pub mod DeltaLaws
+pub mod DeltaSteps
+pub mod ProfileTiers
+pub mod ScalingLaws
+pub mod SetLaws
+pub mod Writing

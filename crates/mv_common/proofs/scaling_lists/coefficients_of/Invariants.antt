@@ -1,0 +1,10 @@
+use Rattle.std.proofs.Common.{◌≡◌}
+use Rattle.mv_syntax.specs.Table.{read}
+use Rattle.mv_syntax.specs.Loops.{rest_of_items}
+use Rattle.mv_common.specs.ScalingLists.{coefficient, coefficients}
+use Rattle.mv_common.proofs.scaling_lists.coefficients_of.Given as goal
+
+abbrev pub invariant-loop-k : goal.invariant-loop-k
+invariant-loop-k l =
+    (read (coefficients l.coded l.s) l.fn.bits.left ≡ rest_of_items coefficient l.k l.turns l.list.items l.bits.left)
+    × (l.bits.total ≡ l.fn.bits.total)

@@ -1,0 +1,138 @@
+ghost use Rattle.std.specs.Prelude.{◌≡◌, ◌≤◌, OnOk};
+ghost use Rattle.mv_syntax.specs.Table.{Valid, read, put};
+ghost use Rattle.mv_syntax.specs.Words.{or_zero};
+ghost use Rattle.mv_syntax.specs.Answers.{Fills};
+ghost use Rattle.mv_common.specs.Faults.{means};
+ghost use Rattle.mv_common.specs.Hrd.{hrd_sub_layer, hrd_sub_layers};
+
+use crate::cpb::{Cpb, put_sub_layer_hrd_if, sub_layer_hrd_if};
+use crate::fault::FieldFault;
+use crate::fields::{coded_set, put_u8, put_u8_if, put_ue_if, u8_if, u8_of, ue_if};
+use crate::hrd_common::HrdFlags;
+use crate::limits::{put_ue_within_if, ue_within_if};
+use mv_bits::{BitReader, BitWriter};
+use std::alloc::{AllocError, Global};
+use std::marker::Model;
+
+/// The fields of hrd_parameters (E.2.2) for one sub-layer.
+#[derive(Debug, Drop)]
+pub struct HrdSubLayer {
+    pub fixed_pic_rate_general_flag: u8,
+    pub fixed_pic_rate_within_cvs_flag: Option<u8>,
+    pub elemental_duration_in_tc_minus1: Option<u32>,
+    pub low_delay_hrd_flag: Option<u8>,
+    pub cpb_cnt_minus1: Option<u32>,
+    pub nal_sub_layer_hrd: Option<Vec<Cpb>>,
+    pub vcl_sub_layer_hrd: Option<Vec<Cpb>>,
+}
+
+impl Model for HrdSubLayer {
+    ghost use Rattle.std.specs.Prelude.{option_map};
+    ghost use Rattle.mv_common.specs.Hrd.{HrdSubLayerValue};
+
+    ghost Value = { HrdSubLayerValue };
+
+    ghost view = { λ s. record {
+      fixed_pic_rate_general_flag = s.fixed_pic_rate_general_flag;
+      fixed_pic_rate_within_cvs_flag = s.fixed_pic_rate_within_cvs_flag;
+      elemental_duration_in_tc_minus1 = s.elemental_duration_in_tc_minus1;
+      low_delay_hrd_flag = s.low_delay_hrd_flag;
+      cpb_cnt_minus1 = s.cpb_cnt_minus1;
+      nal_sub_layer_hrd = option_map (λ v. v.items) s.nal_sub_layer_hrd;
+      vcl_sub_layer_hrd = option_map (λ v. v.items) s.vcl_sub_layer_hrd;
+    } };
+}
+
+// The value of a field, 0 where it is left out.
+fn or_zero(field: Option<u32>) -> u32
+    ensures { result ≡ or_zero field }
+{
+    field.unwrap_or(0)
+}
+
+#[tactic(auto, unfolding(crate::specs::Hrd::hrd_sub_layer))]
+fn hrd_sub_layer_of(
+    alloc: Global,
+    bits: &mut BitReader,
+    flags: HrdFlags,
+) -> Result<HrdSubLayer, FieldFault>
+    ensures { Fills (λ v. v) means bits.old bits.new result (read (hrd_sub_layer flags) bits.old.left) }
+{
+    let fixed_pic_rate_general_flag = u8_of(bits, 1)?;
+    let fixed_pic_rate_within_cvs_flag = u8_if(bits, fixed_pic_rate_general_flag != 1, 1)?;
+    let within_cvs = fixed_pic_rate_within_cvs_flag.unwrap_or(1) == 1;
+    let elemental_duration_in_tc_minus1 = ue_if(bits, within_cvs)?;
+    let low_delay_hrd_flag = u8_if(bits, !within_cvs, 1)?;
+    let cpb_cnt_minus1 = ue_within_if(bits, !coded_set(low_delay_hrd_flag), 31)?;
+    let count = or_zero(cpb_cnt_minus1);
+    let nal_sub_layer_hrd = sub_layer_hrd_if(alloc, bits, flags.nal, flags.sub_pic, count)?;
+    let vcl_sub_layer_hrd = sub_layer_hrd_if(alloc, bits, flags.vcl, flags.sub_pic, count)?;
+    Ok(HrdSubLayer {
+        fixed_pic_rate_general_flag,
+        fixed_pic_rate_within_cvs_flag,
+        elemental_duration_in_tc_minus1,
+        low_delay_hrd_flag,
+        cpb_cnt_minus1,
+        nal_sub_layer_hrd,
+        vcl_sub_layer_hrd,
+    })
+}
+
+#[tactic(auto, unfolding(crate::specs::Hrd::hrd_sub_layer))]
+fn put_hrd_sub_layer(
+    out: &mut BitWriter,
+    v: &HrdSubLayer,
+    flags: HrdFlags,
+) -> Result<(), AllocError>
+    requires { Valid (hrd_sub_layer flags) v.now }
+    ensures { OnOk result (out.new ≡ put (hrd_sub_layer flags) v.now out.old) }
+{
+    let within_cvs = v.fixed_pic_rate_within_cvs_flag.unwrap_or(1) == 1;
+    let count = or_zero(v.cpb_cnt_minus1);
+    put_u8(out, 1, v.fixed_pic_rate_general_flag)?;
+    put_u8_if(
+        out,
+        v.fixed_pic_rate_general_flag != 1,
+        1,
+        v.fixed_pic_rate_within_cvs_flag,
+    )?;
+    put_ue_if(out, within_cvs, v.elemental_duration_in_tc_minus1)?;
+    put_u8_if(out, !within_cvs, 1, v.low_delay_hrd_flag)?;
+    put_ue_within_if(out, !coded_set(v.low_delay_hrd_flag), v.cpb_cnt_minus1, 31)?;
+    put_sub_layer_hrd_if(out, flags.nal, &v.nal_sub_layer_hrd, flags.sub_pic, count)?;
+    put_sub_layer_hrd_if(out, flags.vcl, &v.vcl_sub_layer_hrd, flags.sub_pic, count)
+}
+
+#[tactic(auto, using(mv_syntax::proofs::LoopLaws::item_steps), unfolding(crate::specs::Hrd::hrd_sub_layers))]
+pub(crate) fn hrd_sub_layers_of(
+    alloc: Global,
+    bits: &mut BitReader,
+    subs: u8,
+    flags: HrdFlags,
+) -> Result<Vec<HrdSubLayer>, FieldFault>
+    requires { subs ≤ 6 }
+    ensures { Fills (λ v. v.items) means bits.old bits.new result (read (hrd_sub_layers subs flags) bits.old.left) }
+{
+    let turns = subs + 1;
+    let mut sub_layers = Vec::new(alloc);
+    for _ in 0..turns {
+        sub_layers.push(hrd_sub_layer_of(alloc, bits, flags)?)?;
+    }
+    Ok(sub_layers)
+}
+
+#[tactic(auto, using(mv_syntax::proofs::LoopLaws::put_item_steps), unfolding(crate::specs::Hrd::hrd_sub_layers))]
+pub(crate) fn put_hrd_sub_layers(
+    out: &mut BitWriter,
+    sub_layers: &[HrdSubLayer],
+    subs: u8,
+    flags: HrdFlags,
+) -> Result<(), AllocError>
+    requires { Valid (hrd_sub_layers subs flags) sub_layers.now }
+    ensures { OnOk result (out.new ≡ put (hrd_sub_layers subs flags) sub_layers.now out.old) }
+{
+    for v in sub_layers {
+        put_hrd_sub_layer(out, v, flags)?;
+    }
+    Ok(())
+}

@@ -1,0 +1,8 @@
+pub mod Faults
+pub mod Head
+pub mod Quantization
+pub mod Tools
+pub mod Tiles
+pub mod Deblocking
+pub mod Extension
+pub mod Pps

@@ -1,0 +1,30 @@
+//! Picture parameter sets (H.265 7.3.2.3.1, F.7.3.2.3.1): a payload is read and written exactly.
+#![tactic(auto)]
+
+mod deblocking;
+mod extension;
+mod fault;
+mod fields;
+mod head;
+mod laws;
+mod multilayer;
+mod payload;
+mod pps;
+mod quantization;
+mod scaling;
+mod tiles;
+mod tools;
+
+pub use deblocking::PpsDeblocking;
+pub use extension::PpsExtension;
+pub use head::PpsHead;
+pub use laws::pps_laws;
+pub use multilayer::PpsMultilayer;
+pub use payload::{read_pps, write_pps};
+pub use pps::Pps;
+pub use quantization::PpsQuantization;
+pub use tiles::PpsTiles;
+pub use tools::PpsTools;
+
+#[cfg(test)]
+mod tests;

@@ -1,0 +1,78 @@
+//! The payload of a picture parameter set: read, and written.
+
+ghost use Rattle.std.specs.Prelude.{◌≡◌, ◌≤◌, length, IfOk};
+ghost use Rattle.mv_syntax.specs.Bits.{byte_bits};
+ghost use Rattle.mv_syntax.specs.Payload.{size_limit, ValidPayload, payload_bits, read_payload};
+ghost use Rattle.mv_syntax.specs.Answers.{FillsPayload, AnswersPayload};
+ghost use Rattle.mv_pps.specs.Faults.{means, refusal_means};
+ghost use Rattle.mv_pps.specs.Pps.{pps, has_tail};
+
+use crate::extension::PpsExtension;
+use crate::fault::PpsFault;
+use crate::pps::{Pps, fields_of, put_fields};
+use mv_bits::{BitReader, BitWriter};
+use mv_common::{payload_end_of, put_payload_end};
+use mv_io::{ReadFault, Rule};
+use std::alloc::{AllocError, Global};
+
+/// The greatest payload of a parameter set, in bytes.
+const MAX_BYTES: usize = 65_536;
+
+// Whether a tail stands behind the fields.
+fn has_tail(extension: Option<PpsExtension>) -> bool
+    ensures { result ≡ has_tail extension }
+{
+    match extension {
+        Some(extension) => extension.pps_extension_4bits > 0,
+        None => false,
+    }
+}
+
+// The fields and the end of a payload that is not too long.
+fn parts_of(alloc: Global, payload: &[u8]) -> Result<Pps, PpsFault>
+    requires { length (byte_bits payload.now) ≤ size_limit }
+    ensures { FillsPayload (λ v. v) means result (read_payload pps (byte_bits payload.now)) }
+{
+    let mut bits = BitReader::new(payload);
+    let value = match fields_of(alloc, &mut bits) {
+        Ok(value) => value,
+        Err(fault) => return Err(fault),
+    };
+    match payload_end_of(alloc, &mut bits, has_tail(value.extension)) {
+        Ok(tail) => Ok(Pps { tail, ..value }),
+        Err(fault) => Err(PpsFault::from(fault)),
+    }
+}
+
+/// Reads the payload of a picture parameter set (7.3.2.3.1, F.7.3.2.3.1).
+///
+/// `Refused` with the first rule that a field breaks, all fields before it being read: `PpsLimit` where the payload has
+/// over 65,536 bytes or a field is past its limit, and `PpsRange`, `Pps3d`, `PpsScc`, `PocReset`, `LocationOffsets` or
+/// `ColourMapping` at the field that each names; with `PpsSyntax` where no rule is broken and the bytes are no picture
+/// parameter set. `Memory` where memory runs out.
+pub fn read_pps(alloc: Global, payload: &[u8]) -> Result<Pps, ReadFault>
+    ensures { AnswersPayload (λ v. v) refusal_means pps (byte_bits payload.now) result }
+{
+    if payload.len() > MAX_BYTES {
+        return Err(ReadFault::Refused(Rule::PpsLimit));
+    }
+    match parts_of(alloc, payload) {
+        Ok(value) => Ok(value),
+        Err(PpsFault::NoBits) => Err(ReadFault::Refused(Rule::PpsSyntax)),
+        Err(PpsFault::Breaks(rule)) => Err(ReadFault::Refused(rule)),
+        Err(PpsFault::Memory) => Err(ReadFault::Memory),
+    }
+}
+
+/// The payload of a picture parameter set (7.3.2.3.1, F.7.3.2.3.1).
+///
+/// `AllocError` where memory runs out.
+pub fn write_pps(alloc: Global, value: &Pps) -> Result<Vec<u8>, AllocError>
+    requires { ValidPayload pps value.now }
+    ensures { IfOk result (λ bytes. byte_bits bytes.items ≡ payload_bits pps value.now) }
+{
+    let mut out = BitWriter::new(alloc);
+    put_fields(&mut out, value)?;
+    put_payload_end(&mut out, &value.tail)?;
+    Ok(out.into_bytes())
+}
