@@ -74,9 +74,6 @@ const BEFORE: [&[u8]; 3] = [VPS, SPS, PPS];
 // One byte a read.
 const ONES: [u32; 200] = [1; 200];
 
-// How many bytes of the framed base layer stand before each write: a start code, and then its unit.
-const BEFORE_WRITE: [usize; 10] = [0, 4, 57, 61, 87, 91, 97, 101, 105, 109];
-
 fn stream(alloc: Global, units: &[&[u8]], code: &[u8]) -> Result<Vec<u8>, AllocError> {
     let mut bytes = Vec::new(alloc);
     for unit in units {
@@ -91,17 +88,31 @@ fn extracts_however_cut(rt: HostRuntime) -> Result<(), Fail> {
     let alloc = rt.alloc();
     let base = stream(alloc, &BASE, LONG_CODE)?;
     assert_eq!(rt; base.len(), 115);
-    for code in [LONG_CODE, SHORT_CODE] {
-        let input = stream(alloc, &TWO_VIEW, code)?;
-        for pieces in [&[], ONES.as_slice()] {
-            let row = Row {
-                input: &input,
-                pieces,
-                output: &base,
-                ..PLAIN
-            };
-            check(&rt, alloc, &row)?;
-        }
+    let long = stream(alloc, &TWO_VIEW, LONG_CODE)?;
+    let short = stream(alloc, &TWO_VIEW, SHORT_CODE)?;
+    let whole = Row {
+        input: &long,
+        output: &base,
+        ..PLAIN
+    };
+    let rows = [
+        whole,
+        Row {
+            pieces: &ONES,
+            ..whole
+        },
+        Row {
+            input: &short,
+            ..whole
+        },
+        Row {
+            input: &short,
+            pieces: &ONES,
+            ..whole
+        },
+    ];
+    for row in &rows {
+        check(&rt, alloc, row)?;
     }
     Ok(())
 }
@@ -139,22 +150,38 @@ fn refuses_at_the_byte_that_shows_it(rt: HostRuntime) -> Result<(), Fail> {
     Ok(())
 }
 
+// A run in which a write fails, behind so many bytes of the base layer.
+fn failed<'a>(input: &'a [u8], base: &'a [u8], failing_writes: &'a [u64], len: usize) -> Row<'a> {
+    Row {
+        input,
+        failing_writes,
+        status: 4,
+        output: &base[..len.min(base.len())],
+        line: "write fault\n",
+        ..PLAIN
+    }
+}
+
+// Each start code and each unit is a write of its own.
 #[test]
 fn keeps_what_was_written_before_a_failed_write(rt: HostRuntime) -> Result<(), Fail> {
     let alloc = rt.alloc();
     let input = stream(alloc, &TWO_VIEW, LONG_CODE)?;
     let base = stream(alloc, &BASE, LONG_CODE)?;
-    for (number, len) in BEFORE_WRITE.iter().enumerate() {
-        let failing = [number as u64];
-        let row = Row {
-            input: &input,
-            failing_writes: &failing,
-            status: 4,
-            output: &base[..base.len().min(*len)],
-            line: "write fault\n",
-            ..PLAIN
-        };
-        check(&rt, alloc, &row)?;
+    let rows = [
+        failed(&input, &base, &[0], 0),
+        failed(&input, &base, &[1], 4),
+        failed(&input, &base, &[2], 57),
+        failed(&input, &base, &[3], 61),
+        failed(&input, &base, &[4], 87),
+        failed(&input, &base, &[5], 91),
+        failed(&input, &base, &[6], 97),
+        failed(&input, &base, &[7], 101),
+        failed(&input, &base, &[8], 105),
+        failed(&input, &base, &[9], 109),
+    ];
+    for row in &rows {
+        check(&rt, alloc, row)?;
     }
     Ok(())
 }
