@@ -13,6 +13,7 @@ use Rattle.mv_bytestream.specs.Stages.{IsRunning, Takes, scan_of, waiting_at, ha
 use Rattle.mv_bytestream.specs.declared.machine.Machine.{Machine}
 use Rattle.mv_bytestream.specs.declared.machine.Stage.{Stage}
 use Rattle.mv_bytestream.specs.declared.machine.Stage.TheVariants.{Leading, Making, Found, Given, Last, Ended, Refused}
+use Rattle.mv_bytestream.proofs.Numbers.{byte-number}
 use Rattle.mv_bytestream.proofs.Runs.{none_left}
 
 -- where nothing waits and the input goes on
@@ -113,17 +114,20 @@ pub stands-byte : (old mid new : Machine) (piece : List ℕ) (n : ℕ) → n < l
 stands-byte old mid new piece n low h more s is = subst (StandsFor (scan_of new)) (one-byte s piece n low) (more (s ++ take n piece) (h s is))
 
 -- at a byte that shows a refusal
-pub shows-at : (old mid new : Machine) (piece : List ℕ) (n : ℕ) (r : Refusal) → n < length piece → IsRunning mid.stage → Stands old mid piece n → Takes mid new (get_or piece n 0 ∷ []) (Some r) →
+pub shows-at : (old mid new : Machine) (piece : List ℕ) (n : ℕ) (r : Refusal) → n < length piece → IsRunning old.stage → IsRunning mid.stage → mid.given ≡ old.given → Stands old mid piece n → Takes mid new (get_or piece n 0 ∷ []) (Some r) →
     (s : List ℕ) → StandsFor (scan_of old) s → (n : ℕ) × ShowsAt s piece r n
-shows-at old mid new piece n r low run h more s is = (
-  n + 1,
-  record {
-    some = omega arith;
-    within = omega arith;
-    shown = ap (refusal_shown unit_rules false) (sym (one-byte s piece n low)) ∙ more (s ++ take n piece) (h s is);
-    before = λ k below. quiet-before s piece n k (omega arith) (quiet-so_far mid (s ++ take n piece) run (h s is));
-  },
-)
+shows-at old mid new piece n r low first run given h more s is =
+    let quiet = quiet-so_far mid (s ++ take n piece) run (h s is) in
+    let shown = more (s ++ take n piece) (h s is) in (
+      n + 1,
+      record {
+        some = omega arith;
+        within = omega arith;
+        shown = ap (refusal_shown unit_rules false) (sym (one-byte s piece n low)) ∙ shown;
+        before = λ k below. quiet-before s piece n k (omega arith) quiet;
+        unit = byte-number (s ++ take n piece) (get_or piece n 0) r quiet shown ∙ sym (units-so_far mid (s ++ take n piece) run (h s is)) ∙ given ∙ units-so_far old s first is;
+      },
+    )
 
 -- where a unit was ended, and where none was
 pub takes-all : (old new : Machine) (piece : List ℕ) (n : ℕ) → n ≤ length piece → length piece ≤ n → IsRunning old.stage → IsRunning new.stage → new.given ≡ old.given → Stands old new piece n →

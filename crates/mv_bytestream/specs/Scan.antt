@@ -57,12 +57,14 @@ pub record TakesToUnit (s piece : List ℕ) (n : ℕ) : Type 0 where
   pub before : (k : ℕ) → k < n → whole_units false (s ++ take k piece) ≡ whole_units false s
   pub all : n < length piece → length (whole_units false (s ++ take n piece)) ≡ length (whole_units false s) + 1
 
--- of a piece that is fed behind s, byte number n from 1 is the first that shows a refusal, which is r
+-- of a piece that is fed behind s, byte number n from 1 is the first that shows a refusal, which is r, and its
+-- unit is the one behind those that s holds whole
 pub record ShowsAt (s piece : List ℕ) (r : Refusal) (n : ℕ) : Type 0 where
   pub some : 0 < n
   pub within : n ≤ length piece
   pub shown : refusal_shown unit_rules false (s ++ take n piece) ≡ Some r
   pub before : (k : ℕ) → k < n → refusal_shown unit_rules false (s ++ take k piece) ≡ None
+  pub unit : r.unit ≡ length (whole_units false s)
 
 -- a scanner that stood for s refuses a piece at the byte that shows it, and nothing waits; after want of
 -- memory it is unchanged
@@ -71,10 +73,16 @@ RefusesPiece old new piece (Refused r) =
     (new.refusal ≡ Some r) × (new.waiting ≡ None) × ((s : List ℕ) → StandsFor old s → (n : ℕ) × ShowsAt s piece r n)
 RefusesPiece old new piece Memory = new ≡ old
 
+-- bytes that are all show the refusal r, and its unit is the one behind those that they held whole before the
+-- end was known
+pub record RefusedAtEnd (s : List ℕ) (r : Refusal) : Type 0 where
+  pub shown : refusal_shown unit_rules true s ≡ Some r
+  pub unit : r.unit ≡ length (whole_units false s)
+
 -- a scanner that stood for s refuses it at its end, and nothing waits; after want of memory it is unchanged
 abbrev pub RefusesEnd : Scan → Scan → ScanFault → Type 0
 RefusesEnd old new (Refused r) =
-    (new.refusal ≡ Some r) × (new.waiting ≡ None) × ((s : List ℕ) → StandsFor old s → refusal_shown unit_rules true s ≡ Some r)
+    (new.refusal ≡ Some r) × (new.waiting ≡ None) × ((s : List ℕ) → StandsFor old s → RefusedAtEnd s r)
 RefusesEnd old new Memory = new ≡ old
 
 -- a scanner that handed out the unit that waited, if one did

@@ -40,9 +40,7 @@ pub struct Machine {
 
 impl Machine {
     ghost use Rattle.std.specs.Prelude.{◌≡◌, ◌+◌, ◌<◌, ◌≤◌, ◌^◌, ◌++◌, ◌∷◌, ◌⊎◌, [], ℕ, None, Some, length, take, nat_lt, vec_len, vec_capacity, IfErr, IfNone, IfOk, IfSome, List, OnOk, true, if◌then◌else◌};
-    ghost use Rattle.mv_defs.specs.Event.{refusal_shown};
-    ghost use Rattle.mv_defs.specs.Rules.{unit_rules};
-    ghost use Rattle.mv_bytestream.specs.Scan.{ShowsAt, StandsFor, TakesToUnit, handed_out};
+    ghost use Rattle.mv_bytestream.specs.Scan.{RefusedAtEnd, ShowsAt, StandsFor, TakesToUnit, handed_out};
     ghost use Rattle.mv_io.specs.declared.rule.Rule.{Rule};
     ghost use Rattle.mv_bytestream.specs.declared.machine.Stage.{Stage};
     ghost use Rattle.mv_bytestream.specs.Stages.{HasRoom, IsHeld, IsOpen, IsRunning, Takes, scan_of, unit_held};
@@ -161,7 +159,7 @@ impl Machine {
         requires running { IsRunning self.old.stage }
         requires held { IsHeld self.old }
         ensures stands { IfNone result ((s : List ℕ) → StandsFor (scan_of self.old) s → StandsFor (scan_of self.new) s) }
-        ensures shown { IfSome result (λ r. (s : List ℕ) → StandsFor (scan_of self.old) s → refusal_shown unit_rules true s ≡ Some r) }
+        ensures shown { IfSome result (λ r. (s : List ℕ) → StandsFor (scan_of self.old) s → RefusedAtEnd s r) }
         ensures ended { IfNone result ((scan_of self.new).ended ≡ true) }
         ensures held { IsHeld self.new }
         ensures fed { self.new.fed ≡ self.old.fed }

@@ -9,7 +9,7 @@ returns-in-Ok-clause-handles g c = λ s start idle.
 pub returns-in-Err-Refused-clause-handles : goal.returns-in-Err-Refused-clause-handles
 returns-in-Err-Refused-clause-handles g c = λ s start idle.
     let refuses = rw c.in-Err-Refused.field-0-is at c.in-Err-Refused.ensures.refused in
-    finish-refused start (g.K.Sink.taken c.args.sink.now) c.args.scanner.now c.args.number.now s _ idle (refuses.2 s idle.handled.stands).0 (refuses.2 s idle.handled.stands).1
+    finish-refused start (g.K.Sink.taken c.args.sink.now) c.args.scanner.now c.args.number.now s _ idle (refuses.2 s idle.handled.stands).shown (refuses.2 s idle.handled.stands).unit
 
 pub returns-in-Err-Memory-clause-handles : goal.returns-in-Err-Memory-clause-handles
 returns-in-Err-Memory-clause-handles g c = λ s start idle. finish-memory start (g.K.Sink.taken c.args.sink.now) c.args.scanner.now c.args.number.now s idle

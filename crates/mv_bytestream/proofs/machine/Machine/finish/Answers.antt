@@ -3,6 +3,8 @@ use Rattle.mv_bytestream.specs.Stages.{IsHeld, in_hand}
 use Rattle.mv_bytestream.specs.declared.machine.Machine.{Machine}
 use Rattle.mv_bytestream.specs.declared.machine.Stage.{Stage}
 use Rattle.mv_bytestream.specs.declared.machine.Stage.TheVariants.{Making, Last, Ended}
+use Rattle.mv_bytestream.proofs.Numbers.{end-number}
+use Rattle.mv_bytestream.proofs.Piece.{quiet-so_far}
 use Rattle.mv_bytestream.proofs.Takes.{is_making, ends-none, ends-short, ends-last, few-short, many-long}
 use Rattle.mv_bytestream.proofs.machine.Machine.finish.Goals as goal
 
@@ -18,7 +20,9 @@ returns-in_default c =
     let m = c.args.self.now in
     record {
       stands = tt;
-      shown = λ s h. ends-short m (is_making m.stage c.requires.running c.in_default.not-Leading) (few-short m (omega (arith, c.if-len-lt2.true))) s h ∙ ap Some (sym c.refusal.ensures.value);
+      shown = λ s h.
+          let shown = ends-short m (is_making m.stage c.requires.running c.in_default.not-Leading) (few-short m (omega (arith, c.if-len-lt2.true))) s h ∙ ap Some (sym c.refusal.ensures.value) in
+          record { shown = shown; unit = end-number s _ (quiet-so_far m s c.requires.running h) shown };
       ended = tt;
       held = c.requires.held;
       fed = refl;

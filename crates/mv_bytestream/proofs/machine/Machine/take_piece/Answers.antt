@@ -28,7 +28,7 @@ pub returns-in-Some-clause-refused : goal.returns-in-Some-clause-refused
 returns-in-Some-clause-refused c =
     shows-at c.args.self.now c.run-at.new.self c.byte.new.self c.args.piece.now (c.loop-at.at + c.run-at.result) c.in-Some.refusal
     (omega (arith, rest-length c.args.piece.now c.loop-at.at, c.run-at.ensures.within, c.if-at-piece.false, c.loop-at-test.true))
-    (subst IsRunning (sym c.run-at.ensures.stage) c.loop-at.invariant.running)
+    c.requires.running (subst IsRunning (sym c.run-at.ensures.stage) c.loop-at.invariant.running) (c.run-at.ensures.given ∙ c.loop-at.invariant.given)
     (stands-run c.args.self.now c.loop-at.self c.run-at.new.self c.args.piece.now c.loop-at.at c.run-at.result c.loop-at.invariant.stands c.run-at.ensures.takes)
     c.in-Some.ensures.takes
 
