@@ -28,6 +28,11 @@ use std::process::ExitCode;
 struct Zeros;
 
 impl Source for Zeros {
+    ghost use Rattle.std.specs.Prelude.{None};
+
+    ghost told = { λ _. None };
+    ghost faults = { λ _. 0 };
+
     fn read(&mut self, into: &mut [u8]) -> Result<usize, SourceFailed> {
         into.fill(0);
         Ok(into.len())
@@ -38,6 +43,11 @@ impl Source for Zeros {
 struct Nothing;
 
 impl Sink for Nothing {
+    ghost use Rattle.std.specs.Prelude.{None};
+
+    ghost taken = { λ _. None };
+    ghost faults = { λ _. 0 };
+
     fn write(&mut self, piece: &[u8]) -> Result<usize, SinkFailed> {
         Ok(piece.len())
     }
@@ -69,7 +79,7 @@ def made(folder, limit):
 
 def status(folder, number):
     """The status where request number `number` is refused."""
-    run = subprocess.run(["rt", "try", "--fail-alloc", str(number)], cwd=folder, capture_output=True, text=True)
+    run = subprocess.run(["rt", "try", "--steps", "1000", "--fail-alloc", str(number)], cwd=folder, capture_output=True, text=True)
     if run.returncode not in (5, 7):
         sys.exit(f"request {number}: status {run.returncode}\n{run.stdout[-2000:]}\n{run.stderr[-2000:]}")
     return run.returncode

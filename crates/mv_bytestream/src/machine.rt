@@ -149,9 +149,10 @@ impl Machine {
         ensures same { scan_of self.new ≡ scan_of self.old }
         ensures held { IsHeld self.new }
     {
+        // At most two zero bytes that stand before them may turn out to be the unit's. They are counted whether they
+        // stand there or not, so that a longer input asks for no more memory.
         let most = LONGEST_UNIT - self.unit.len();
-        let zeros = self.zeros.min(2) as usize;
-        self.unit.reserve(count.saturating_add(zeros).min(most))
+        self.unit.reserve(count.saturating_add(2).min(most))
     }
 
     // Ends the input, and says which refusal that shows.
