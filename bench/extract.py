@@ -10,7 +10,6 @@ usage: bench/extract.py [--size MB] [--runs N] [--gigabyte]
 import argparse
 import os
 import random
-import resource
 import subprocess
 import sys
 import tempfile
@@ -58,6 +57,21 @@ def seconds(words, path, to_pipe):
     return spent
 
 
+def most_memory(words, path):
+    """The greatest memory of one run in KiB, as the system tells it while the run goes on."""
+    most = 0
+    with open(path, "rb") as source:
+        run = subprocess.Popen(words, stdin=source, stdout=subprocess.DEVNULL)
+        while run.poll() is None:
+            try:
+                with open(f"/proc/{run.pid}/status") as status:
+                    rows = [line.split() for line in status if line.startswith("VmHWM")]
+                most = max([most] + [int(row[1]) for row in rows])
+            except OSError:
+                pass
+    return most
+
+
 def main():
     parser = argparse.ArgumentParser(description=__doc__.split("\n")[0])
     parser.add_argument("--size", type=int, default=200, help="megabytes a stream")
@@ -76,9 +90,8 @@ def main():
                 print(f"{name:7} to {where:8} {total / ours / 1e6:8.0f} MB/s   {cat / ours:5.2f} of cat", flush=True)
         if asked.gigabyte:
             stream(path, 900_000, 1_000_000_000)
-            seconds([PROGRAM, "extract", "0"], path, False)
-            most = resource.getrusage(resource.RUSAGE_CHILDREN).ru_maxrss
-            print(f"at most {most / 1024:.1f} MiB on a stream of a gigabyte with units of 0.9 MB (largest of all runs here)")
+            most = most_memory([PROGRAM, "extract", "0"], path)
+            print(f"at most {most / 1024:.1f} MiB of memory on a stream of a gigabyte, in units of 0.9 MB")
 
 
 main()
