@@ -1,0 +1,10 @@
+pub mod Faults
+pub mod Head
+pub mod Format
+pub mod Ordering
+pub mod Blocks
+pub mod Scaling
+pub mod Tools
+pub mod References
+pub mod Extension
+pub mod Sps
