@@ -1,5 +1,5 @@
 -- What the faults of a sequence parameter set say of the bits.
-use Rattle.std.specs.Prelude.{ℕ, Option, Some, None, nat_eq, if◌then◌else◌}
+use Rattle.std.specs.Prelude.{ℕ, Option, Some, None}
 use Rattle.mv_syntax.specs.Bits.{Fault, short, breaks}
 use Rattle.mv_io.specs.Rule.{rule_number}
 use Rattle.mv_io.specs.declared.refusal.ReadFault.{ReadFault}
@@ -26,8 +26,7 @@ under_limit no_memory = Memory
 abbrev pub syntax_rule : ℕ
 syntax_rule = 30
 
--- What a refusal says of the payload: by the syntax rule that no value reads and no rule cuts, by any other that this rule
--- cuts; want of memory says nothing.
-abbrev pub refusal : ReadFault → Option Fault
-refusal (Refused rule) = Some (if nat_eq (rule_number rule) syntax_rule then short else breaks (rule_number rule))
-refusal out_of_memory = None
+-- The number of the rule that refuses the payload; None for want of memory.
+abbrev pub broken_rule : ReadFault → Option ℕ
+broken_rule (Refused rule) = Some (rule_number rule)
+broken_rule out_of_memory = None

@@ -7,4 +7,7 @@ pub mod Scaling
 pub mod Tools
 pub mod References
 pub mod Extension
+pub mod Pictures
+pub mod Coding
+pub mod Usability
 pub mod Sps
