@@ -49,7 +49,7 @@ pub ends : {A : Type 0} (p : Payload A) (payload : List ℕ) (start behind : Cur
     → read_end c (place behind) behind.left ≡ Ok tail → read_payload p (byte_bits payload) ≡ Ok (v, tail)
 ends p payload start behind v tail c tailed size whole all e same end =
     payload_end p (byte_bits payload) v behind.left tail (in_bits payload size) (ap (read p.fields) (sym all) ∙ e)
-    (sym (ap (λ n. read_end (p.has_tail v) n behind.left) (place_behind payload start behind whole same) ) ∙ sym (ap (λ d. read_end d (place behind) behind.left) tailed) ∙ end)
+    (sym (ap (λ n. read_end (p.has_tail v) n behind.left) (place_behind payload start behind whole same)) ∙ sym (ap (λ d. read_end d (place behind) behind.left) tailed) ∙ end)
 
 -- the end is never past a limit
 pub end_short : (c : Bool) (at : ℕ) (b : List Bool) (fault : FieldFault) (e : SpsFault) → e ≡ under_limit fault

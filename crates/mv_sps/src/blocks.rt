@@ -7,7 +7,7 @@ ghost use Rattle.mv_sps.specs.Blocks.{blocks};
 use crate::fault::SpsFault;
 use crate::fields::{ue_sum_within, ue_within};
 use mv_bits::{BitReader, BitWriter};
-use mv_common::{put_ue};
+use mv_common::put_ue;
 use std::alloc::AllocError;
 
 /// The sizes of the coding and the transform blocks, as powers of two, and how often a coding block's residual is split.
@@ -26,7 +26,11 @@ pub(crate) fn blocks_of(bits: &mut BitReader) -> Result<SpsBlocks, SpsFault>
     ensures { Fills (λ v. v) means bits.old bits.new result (read blocks bits.old.left) }
 {
     let log2_min_luma_coding_block_size_minus3 = ue_within(bits, 3)?;
-    let log2_diff_max_min_luma_coding_block_size = ue_sum_within(bits, log2_min_luma_coding_block_size_minus3, 3)?;
+    let log2_diff_max_min_luma_coding_block_size = ue_sum_within(
+        bits,
+        log2_min_luma_coding_block_size_minus3,
+        3,
+    )?;
     let log2_min_luma_transform_block_size_minus2 = bits.ue()?;
     let log2_diff_max_min_luma_transform_block_size = bits.ue()?;
     let max_transform_hierarchy_depth_inter = bits.ue()?;

@@ -5,7 +5,7 @@ ghost use Rattle.mv_sps.specs.Faults.{means};
 ghost use Rattle.mv_sps.specs.Extension.{extension};
 
 use crate::fault::SpsFault;
-use crate::fields::{unset_flag_if};
+use crate::fields::unset_flag_if;
 use mv_bits::{BitReader, BitWriter};
 use mv_common::{coded_set, put_u8, put_u8_if, u8_if, u8_of};
 use mv_io::Rule;
@@ -34,7 +34,11 @@ pub(crate) fn extension_of(bits: &mut BitReader) -> Result<SpsExtension, SpsFaul
     let sps_3d_extension_flag = unset_flag_if(bits, present, Rule::Sps3d)?;
     let sps_scc_extension_flag = unset_flag_if(bits, present, Rule::SpsScc)?;
     let sps_extension_4bits = u8_if(bits, present, 4)?;
-    let inter_view_mv_vert_constraint_flag = u8_if(bits, coded_set(sps_multilayer_extension_flag), 1)?;
+    let inter_view_mv_vert_constraint_flag = u8_if(
+        bits,
+        coded_set(sps_multilayer_extension_flag),
+        1,
+    )?;
     Ok(SpsExtension {
         sps_extension_present_flag,
         sps_range_extension_flag,
@@ -58,5 +62,10 @@ pub(crate) fn put_extension(out: &mut BitWriter, v: &SpsExtension) -> Result<(),
     put_u8_if(out, present, 1, v.sps_3d_extension_flag)?;
     put_u8_if(out, present, 1, v.sps_scc_extension_flag)?;
     put_u8_if(out, present, 4, v.sps_extension_4bits)?;
-    put_u8_if(out, coded_set(v.sps_multilayer_extension_flag), 1, v.inter_view_mv_vert_constraint_flag)
+    put_u8_if(
+        out,
+        coded_set(v.sps_multilayer_extension_flag),
+        1,
+        v.inter_view_mv_vert_constraint_flag,
+    )
 }

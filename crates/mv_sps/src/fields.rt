@@ -39,11 +39,7 @@ pub(crate) fn ue_within_if(
 }
 
 /// The next field ue(v), which breaks the limit rule where with `first` it is over `limit`.
-pub(crate) fn ue_sum_within(
-    bits: &mut BitReader,
-    first: u32,
-    limit: u32,
-) -> Result<u32, SpsFault>
+pub(crate) fn ue_sum_within(bits: &mut BitReader, first: u32, limit: u32) -> Result<u32, SpsFault>
     ensures { Fills (λ v. v) means bits.old bits.new result (read (ue ! 36 ∶ (λ n. over limit (first + n))) bits.old.left) }
 {
     let value = bits.ue()?;

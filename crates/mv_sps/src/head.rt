@@ -68,11 +68,7 @@ fn field_of(bits: &mut BitReader, layer: u8) -> Result<u8, SpsFault>
 }
 
 /// The same, by which at most 6 sub-layers stand below the highest.
-fn max_sub_layers_of(
-    bits: &mut BitReader,
-    layer: u8,
-    vps_sub_layers: u8,
-) -> Result<u8, SpsFault>
+fn max_sub_layers_of(bits: &mut BitReader, layer: u8, vps_sub_layers: u8) -> Result<u8, SpsFault>
     requires { vps_sub_layers ≤ 6 }
     ensures fills { Fills (λ v. v) means bits.old bits.new result (read (u 3 ! 36 ∶ (λ n. nat_eq layer 0 && nat_eq n 7)) bits.old.left) }
     ensures few { IfOk result (λ n. subs_of layer vps_sub_layers n ≤ 6) }

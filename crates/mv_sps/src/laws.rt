@@ -9,5 +9,4 @@ ghost use Rattle.mv_sps.specs.Sps.{sps_payload};
 pub fn sps_laws()
     ensures exactly_one { (layer vps_sub_layers : ℕ) (b : List Bool) → PayloadExactlyOne (sps_payload layer vps_sub_layers) b }
     ensures round_trips { (layer vps_sub_layers : ℕ) → PayloadRoundTrips (sps_payload layer vps_sub_layers) }
-{
-}
+{}

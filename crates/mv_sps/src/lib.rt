@@ -24,10 +24,10 @@ pub use blocks::SpsBlocks;
 pub use coding::SpsCoding;
 pub use extension::SpsExtension;
 pub use head::SpsHead;
-pub use ordering::{SpsOrdering, SpsSubLayer};
-pub use picture_format::SpsPictureFormat;
 pub use laws::sps_laws;
+pub use ordering::{SpsOrdering, SpsSubLayer};
 pub use payload::{read_sps, write_sps};
+pub use picture_format::SpsPictureFormat;
 pub use pictures::SpsPictures;
 pub use references::SpsReferences;
 pub use rep_format::SpsRepFormat;
@@ -35,3 +35,6 @@ pub use scaling::SpsScaling;
 pub use sps::Sps;
 pub use tools::SpsTools;
 pub use vui::SpsVui;
+
+#[cfg(test)]
+mod tests;

@@ -19,12 +19,7 @@ fn has_tail(value: &Sps) -> bool
     value.extension.sps_extension_4bits.unwrap_or(0) > 0
 }
 
-fn payload_of(
-    alloc: Global,
-    layer: u8,
-    vps_sub_layers: u8,
-    payload: &[u8],
-) -> Result<Sps, SpsFault>
+fn payload_of(alloc: Global, layer: u8, vps_sub_layers: u8, payload: &[u8]) -> Result<Sps, SpsFault>
     requires { vps_sub_layers ≤ 6 }
     ensures { FillsPayload (λ v. v) means result (read_payload (sps_payload layer vps_sub_layers) (byte_bits payload.now)) }
 {

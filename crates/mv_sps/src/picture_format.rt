@@ -32,7 +32,11 @@ fn picture_format_of(bits: &mut BitReader) -> Result<SpsPictureFormat, SpsFault>
     ensures { Fills (λ v. v) means bits.old bits.new result (read picture_format bits.old.left) }
 {
     let chroma_format_idc = ue_within(bits, 3)?;
-    let separate_colour_plane_flag = unset_flag_if(bits, chroma_format_idc == 3, Rule::ColourPlanes)?;
+    let separate_colour_plane_flag = unset_flag_if(
+        bits,
+        chroma_format_idc == 3,
+        Rule::ColourPlanes,
+    )?;
     let pic_width_in_luma_samples = side_of(bits)?;
     let pic_height_in_luma_samples = side_of(bits)?;
     let conformance_window_flag = u8_of(bits, 1)?;
@@ -65,7 +69,12 @@ fn put_picture_format(out: &mut BitWriter, v: &SpsPictureFormat) -> Result<(), A
 {
     let window = v.conformance_window_flag == 1;
     put_ue(out, v.chroma_format_idc)?;
-    put_u8_if(out, v.chroma_format_idc == 3, 1, v.separate_colour_plane_flag)?;
+    put_u8_if(
+        out,
+        v.chroma_format_idc == 3,
+        1,
+        v.separate_colour_plane_flag,
+    )?;
     put_ue(out, v.pic_width_in_luma_samples)?;
     put_ue(out, v.pic_height_in_luma_samples)?;
     put_u8(out, 1, v.conformance_window_flag)?;
@@ -77,7 +86,10 @@ fn put_picture_format(out: &mut BitWriter, v: &SpsPictureFormat) -> Result<(), A
     put_ue(out, v.bit_depth_chroma_minus8)
 }
 
-pub(crate) fn picture_format_if(bits: &mut BitReader, present: bool) -> Result<Option<SpsPictureFormat>, SpsFault>
+pub(crate) fn picture_format_if(
+    bits: &mut BitReader,
+    present: bool,
+) -> Result<Option<SpsPictureFormat>, SpsFault>
     ensures { Fills (λ v. v) means bits.old bits.new result (read (when present picture_format) bits.old.left) }
 {
     if !present {

@@ -37,7 +37,10 @@ fn put_rep_format(out: &mut BitWriter, v: &SpsRepFormat) -> Result<(), AllocErro
     put_u8_if(out, v.update_rep_format_flag == 1, 8, v.sps_rep_format_idx)
 }
 
-pub(crate) fn rep_format_if(bits: &mut BitReader, present: bool) -> Result<Option<SpsRepFormat>, SpsFault>
+pub(crate) fn rep_format_if(
+    bits: &mut BitReader,
+    present: bool,
+) -> Result<Option<SpsRepFormat>, SpsFault>
     ensures { Fills (λ v. v) means bits.old bits.new result (read (when present rep_format) bits.old.left) }
 {
     if !present {

@@ -74,6 +74,11 @@ pub(crate) fn put_scaling(out: &mut BitWriter, v: &SpsScaling, ext: bool) -> Res
     put_u8(out, 1, v.scaling_list_enabled_flag)?;
     put_u8_if(out, enabled && ext, 1, v.sps_infer_scaling_list_flag)?;
     put_u8_if(out, infer, 6, v.sps_scaling_list_ref_layer_id)?;
-    put_u8_if(out, enabled && !infer, 1, v.sps_scaling_list_data_present_flag)?;
+    put_u8_if(
+        out,
+        enabled && !infer,
+        1,
+        v.sps_scaling_list_data_present_flag,
+    )?;
     put_scaling_lists_if(out, present, &v.scaling_list_data)
 }

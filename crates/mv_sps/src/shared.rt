@@ -13,11 +13,7 @@ use mv_bits::{BitReader, BitWriter};
 use mv_common::{ProfileArgs, ProfileTier, ScalingArgs, ScalingLists, Vui, VuiArgs};
 use std::alloc::{AllocError, Global};
 
-fn profile_tier_of(
-    alloc: Global,
-    bits: &mut BitReader,
-    subs: u8,
-) -> Result<ProfileTier, SpsFault>
+fn profile_tier_of(alloc: Global, bits: &mut BitReader, subs: u8) -> Result<ProfileTier, SpsFault>
     requires { subs ≤ 6 }
     ensures { Fills (λ v. v) means bits.old bits.new result (read (by_rule 36 (profile_tier_level true subs)) bits.old.left) }
 {

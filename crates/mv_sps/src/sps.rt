@@ -34,13 +34,16 @@ impl Model for Sps {
 
     ghost Value = { SpsValue × Option (List Bool) };
 
-    ghost view = { λ s. (record {
-      head = s.head;
-      pictures = s.pictures;
-      coding = s.coding;
-      vui = s.vui;
-      extension = s.extension;
-    }, option_map (λ v. v.items) s.tail) };
+    ghost view = { λ s. (
+      record {
+        head = s.head;
+        pictures = s.pictures;
+        coding = s.coding;
+        vui = s.vui;
+        extension = s.extension;
+      },
+      option_map (λ v. v.items) s.tail,
+    ) };
 }
 
 #[tactic(auto, unfolding(crate::specs::Sps::last_parts))]

@@ -53,5 +53,10 @@ pub(crate) fn put_usability(out: &mut BitWriter, v: &SpsVui, subs: u8) -> Result
     ensures { OnOk result (out.new ≡ put (usability subs) v.now out.old) }
 {
     put_u8(out, 1, v.vui_parameters_present_flag)?;
-    put_vui_if(out, v.vui_parameters_present_flag == 1, &v.vui_parameters, subs)
+    put_vui_if(
+        out,
+        v.vui_parameters_present_flag == 1,
+        &v.vui_parameters,
+        subs,
+    )
 }
