@@ -1,0 +1,4 @@
+pub mod Counted
+pub mod Subs
+pub mod Sets
+pub mod Whole
