@@ -232,18 +232,22 @@ fn refused_in_layer_0(rt: HostRuntime) -> Result<(), Fail> {
     Ok(())
 }
 
+// Bytes 0, as many as asked.
+fn zeros(alloc: Global, count: u32) -> Result<Vec<u8>, AllocError> {
+    let mut bytes = Vec::new(alloc);
+    for _ in 0..count {
+        bytes.push(0)?;
+    }
+    Ok(bytes)
+}
+
 // Over 65,536 bytes.
 #[test]
 fn refused_for_its_size(rt: HostRuntime) -> Result<(), Fail> {
-    let mut bytes = Vec::new(rt.alloc());
-    for _ in 0..65537 {
-        bytes.push(0)?;
-    }
-    assert_eq!(rt; refusal(rt.alloc(), 0, &bytes), Some(Rule::SpsLimit));
-    assert_eq!(rt;
-        refusal(rt.alloc(), 0, &bytes[..65536]),
-        Some(Rule::SpsSyntax)
-    );
+    let too_long = zeros(rt.alloc(), 65537)?;
+    assert_eq!(rt; refusal(rt.alloc(), 0, &too_long), Some(Rule::SpsLimit));
+    let longest = zeros(rt.alloc(), 65536)?;
+    assert_eq!(rt; refusal(rt.alloc(), 0, &longest), Some(Rule::SpsSyntax));
     Ok(())
 }
 
