@@ -45,21 +45,24 @@ impl Model for Pps {
 
     ghost Value = { PpsValue × Option (List Bool) };
 
-    ghost view = { λ p. (record {
-      head = p.head;
-      quantization = p.quantization;
-      tools = p.tools;
-      tiles = p.tiles;
-      pps_loop_filter_across_slices_enabled_flag = p.pps_loop_filter_across_slices_enabled_flag;
-      deblocking = p.deblocking;
-      pps_scaling_list_data_present_flag = p.pps_scaling_list_data_present_flag;
-      scaling_list_data = p.scaling_list_data;
-      lists_modification_present_flag = p.lists_modification_present_flag;
-      log2_parallel_merge_level_minus2 = p.log2_parallel_merge_level_minus2;
-      slice_segment_header_extension_present_flag = p.slice_segment_header_extension_present_flag;
-      pps_extension_present_flag = p.pps_extension_present_flag;
-      extension = p.extension;
-    }, option_map (λ v. v.items) p.tail) };
+    ghost view = { λ p. (
+      record {
+        head = p.head;
+        quantization = p.quantization;
+        tools = p.tools;
+        tiles = p.tiles;
+        pps_loop_filter_across_slices_enabled_flag = p.pps_loop_filter_across_slices_enabled_flag;
+        deblocking = p.deblocking;
+        pps_scaling_list_data_present_flag = p.pps_scaling_list_data_present_flag;
+        scaling_list_data = p.scaling_list_data;
+        lists_modification_present_flag = p.lists_modification_present_flag;
+        log2_parallel_merge_level_minus2 = p.log2_parallel_merge_level_minus2;
+        slice_segment_header_extension_present_flag = p.slice_segment_header_extension_present_flag;
+        pps_extension_present_flag = p.pps_extension_present_flag;
+        extension = p.extension;
+      },
+      option_map (λ v. v.items) p.tail,
+    ) };
 }
 
 /// The fields of a picture parameter set, up to the tail, which is None here.

@@ -52,7 +52,11 @@ pub(crate) fn put_quantization(out: &mut BitWriter, v: &PpsQuantization) -> Resu
     put_u8(out, 1, v.constrained_intra_pred_flag)?;
     put_u8(out, 1, v.transform_skip_enabled_flag)?;
     put_u8(out, 1, v.cu_qp_delta_enabled_flag)?;
-    put_ue_if(out, v.cu_qp_delta_enabled_flag == 1, v.diff_cu_qp_delta_depth)?;
+    put_ue_if(
+        out,
+        v.cu_qp_delta_enabled_flag == 1,
+        v.diff_cu_qp_delta_depth,
+    )?;
     put_se(out, v.pps_cb_qp_offset)?;
     put_se(out, v.pps_cr_qp_offset)?;
     put_u8(out, 1, v.pps_slice_chroma_qp_offsets_present_flag)

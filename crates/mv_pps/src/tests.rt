@@ -147,7 +147,10 @@ fn payloads_of_streams(rt: HostRuntime) -> Result<(), Fail> {
         assert_eq!(rt; value.quantization, quantization);
         assert_eq!(rt; value.tools, tools);
         assert!(rt; value.tiles.is_none());
-        assert_eq!(rt; value.pps_loop_filter_across_slices_enabled_flag, across_slices);
+        assert_eq!(rt;
+            value.pps_loop_filter_across_slices_enabled_flag,
+            across_slices
+        );
         assert_eq!(rt; value.deblocking, deblocking);
         assert_eq!(rt; value.pps_scaling_list_data_present_flag, 0);
         assert!(rt; value.scaling_list_data.is_none());
@@ -186,8 +189,20 @@ fn tiles(rt: HostRuntime) -> Result<(), Fail> {
         assert_eq!(rt; tiles.num_tile_columns_minus1, 2);
         assert_eq!(rt; tiles.num_tile_rows_minus1, 1);
         assert_eq!(rt; tiles.uniform_spacing_flag, uniform);
-        assert_eq!(rt; tiles.column_width_minus1.unwrap_or(Vec::new(rt.alloc())).as_slice(), widths);
-        assert_eq!(rt; tiles.row_height_minus1.unwrap_or(Vec::new(rt.alloc())).as_slice(), heights);
+        assert_eq!(rt;
+            tiles
+                .column_width_minus1
+                .unwrap_or(Vec::new(rt.alloc()))
+                .as_slice(),
+            widths
+        );
+        assert_eq!(rt;
+            tiles
+                .row_height_minus1
+                .unwrap_or(Vec::new(rt.alloc()))
+                .as_slice(),
+            heights
+        );
         assert_eq!(rt; tiles.loop_filter_across_tiles_enabled_flag, 1);
         assert_eq!(rt; written.as_slice(), bytes.as_slice());
     }
@@ -214,10 +229,16 @@ fn deblocking(rt: HostRuntime) -> Result<(), Fail> {
         let (value, written) = again(rt.alloc(), &bytes)?;
         let filter = value.deblocking;
         assert_eq!(rt;
-            [filter.deblocking_filter_override_enabled_flag, filter.pps_deblocking_filter_disabled_flag],
+            [
+                filter.deblocking_filter_override_enabled_flag,
+                filter.pps_deblocking_filter_disabled_flag
+            ],
             flags
         );
-        assert_eq!(rt; [filter.pps_beta_offset_div2, filter.pps_tc_offset_div2], offsets);
+        assert_eq!(rt;
+            [filter.pps_beta_offset_div2, filter.pps_tc_offset_div2],
+            offsets
+        );
         assert_eq!(rt; written.as_slice(), bytes.as_slice());
     }
     Ok(())
@@ -226,7 +247,8 @@ fn deblocking(rt: HostRuntime) -> Result<(), Fail> {
 // Scaling lists that are all predicted: a flag 0 and a delta 0 for each of the 20.
 #[test]
 fn scaling_lists(rt: HostRuntime) -> Result<(), Fail> {
-    let text = "1 1 00 000 0 0 1 1 | 1 0 0 0 1 1 0 | 00000 | 0 0 1 | 010101010101 010101010101 010101010101 0101 | 0 1 0 0";
+    let text =
+        "1 1 00 000 0 0 1 1 | 1 0 0 0 1 1 0 | 00000 | 0 0 1 | 010101010101 010101010101 010101010101 0101 | 0 1 0 0";
     let bytes = bytes_of(rt.alloc(), text)?;
     let (value, written) = again(rt.alloc(), &bytes)?;
     let lists = value.scaling_list_data.ok_or("scaling lists")?;

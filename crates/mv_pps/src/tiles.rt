@@ -149,7 +149,12 @@ fn put_tiles(out: &mut BitWriter, v: &PpsTiles) -> Result<(), AllocError>
     put_ue(out, v.num_tile_columns_minus1)?;
     put_ue(out, v.num_tile_rows_minus1)?;
     put_u8(out, 1, v.uniform_spacing_flag)?;
-    put_sizes_if(out, coded, &v.column_width_minus1, v.num_tile_columns_minus1)?;
+    put_sizes_if(
+        out,
+        coded,
+        &v.column_width_minus1,
+        v.num_tile_columns_minus1,
+    )?;
     put_sizes_if(out, coded, &v.row_height_minus1, v.num_tile_rows_minus1)?;
     put_u8(out, 1, v.loop_filter_across_tiles_enabled_flag)
 }

@@ -8,5 +8,5 @@ pub returns : goal.returns
 returns c =
     c.into_bytes.ensures
     ∙ payload_written pps c.args.value.now _ _ _
-      (c.in_ok-put_fields.ensures ∙ ap (put pps_fields c.args.value.now.0) c.new-out.ensures)
-      (ap (λ v. v.1) c.value.view_is) c.in_ok-put_payload_end.ensures.ok
+    (c.in_ok-put_fields.ensures ∙ ap (put pps_fields c.args.value.now.0) c.new-out.ensures)
+    (ap (λ v. v.1) c.value.view_is) c.in_ok-put_payload_end.ensures.ok
