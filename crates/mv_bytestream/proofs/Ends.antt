@@ -1,5 +1,6 @@
 -- Zero bytes at the end of a part of a string.
-use Rattle.std.proofs.Common.{◌≡◌, ◌≢◌, ℕ, suc, ◌+◌, ◌-◌, ◌<◌, ◌≤◌, List, [], ◌∷◌, ◌++◌, length, take, drop, get_or, refl, ap, sym, ◌∙◌, subst, arith, slice_range, min}
+use Rattle.std.proofs.Common.{◌≡◌, ◌≢◌, ℕ, suc, ◌+◌, ◌-◌, ◌<◌, ◌≤◌, List, [], ◌∷◌, ◌++◌, length, take, drop, get_or, refl, ap, sym, ◌∙◌, subst, arith, slice_range, min, zero, replicate, Result, Ok, Err, IsOk, is_ok, if◌then◌else◌, length-append}
+use Rattle.std.proofs.lemmas.Bool.{false≢true}
 use Rattle.std.proofs.lemmas.List.{get_or-take, get_or-drop, length-take, length-drop}
 use Rattle.std.proofs.Math.Seq.{take-suc}
 use Rattle.mv_defs.specs.Units.{trimmed}
@@ -45,3 +46,25 @@ trimmed-stays s from to low high isnt = trimmed-whole (slice_range s from to) (�
 pub trimmed-none : (s : List ℕ) (from to : ℕ) → to ≡ from → trimmed (slice_range s from to) ≡ slice_range s from to
 unfolding trimmed
 trimmed-none s from to is = let none : to - from ≡ 0 = omega arith in subst (λ n. trimmed (take n (drop from s)) ≡ take n (drop from s)) (sym none) refl
+
+-- bytes whose last isn't zero stay whole
+get-last : (s : List ℕ) (b : ℕ) → get_or (s ++ b ∷ []) (length s) 0 ≡ b
+get-last [] b = refl
+get-last (a ∷ s) b = get-last s b
+
+pub nonzero-last : (s : List ℕ) (b : ℕ) → b ≢ 0 → trimmed (s ++ b ∷ []) ≡ s ++ b ∷ []
+nonzero-last s b h =
+    let n : length (s ++ b ∷ []) - 1 ≡ length s = omega (arith, length-append s (b ∷ [])) in
+    trimmed-whole (s ++ b ∷ []) (λ e. h (sym (get-last s b) ∙ ap (λ n. get_or (s ++ b ∷ []) n 0) (sym n) ∙ e))
+
+-- no more than two zero bytes
+pub taken-zeros : (n : ℕ) → n ≤ 2 → take {A = ℕ} n (0 ∷ 0 ∷ []) ≡ replicate n 0
+taken-zeros zero low = refl
+taken-zeros (suc zero) low = refl
+taken-zeros (suc (suc zero)) low = refl
+taken-zeros (suc (suc (suc n))) low = absurd (omega arith)
+
+-- what a call left that succeeds
+pub ok-items : {X Y : Type 0} (r : Result X Y) (xs ys zs : List ℕ) → IsOk r → xs ≡ (if is_ok r then ys else zs) → xs ≡ ys
+ok-items (Ok x) xs ys zs ok is = is
+ok-items (Err x) xs ys zs ok is = absurd (false≢true ok)

@@ -1,4 +1,11 @@
+pub mod Closes
 pub mod Codes
+pub mod Emulates
 pub mod Ends
+pub mod Piece
+pub mod Prevented
+pub mod Run
+pub mod Runs
 pub mod Steps
+pub mod Takes
 pub mod Written

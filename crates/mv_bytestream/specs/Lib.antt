@@ -1,1 +1,5 @@
+pub mod Bytes
+pub mod Found
+pub mod Scan
 pub mod Spans
+pub mod Stages

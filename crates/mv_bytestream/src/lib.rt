@@ -2,13 +2,21 @@
 //! put into a stream.
 #![tactic(auto)]
 
+mod escaping;
 mod framing;
 mod heads;
+mod machine;
+mod making;
+mod scanner;
 mod splitting;
 #[cfg(test)]
 mod tests;
+mod unescaping;
 
+pub use escaping::escape;
 pub use framing::frame;
 pub use heads::read_head;
 pub use mv_defs::UnitHead;
+pub use scanner::{Found, Scanner};
 pub use splitting::{ScanFault, Span, split};
+pub use unescaping::unescape;

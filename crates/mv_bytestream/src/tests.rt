@@ -1,7 +1,8 @@
-//! Worked rows: what is found in a string, how heads are read, and what a failed write leaves.
+//! Worked rows: what is found in a string, how heads are read, what a failed write leaves, and payloads put into
+//! units and taken out.
 #![tactic(auto)]
 
-use crate::{ScanFault, Span, UnitHead, frame, read_head, split};
+use crate::{ScanFault, Span, UnitHead, escape, frame, read_head, split, unescape};
 use mv_io::{MemSink, Refusal, Rule};
 use std::test::Fail;
 
@@ -158,6 +159,110 @@ fn a_unit_is_framed_by_two_writes(rt: HostRuntime) -> Result<(), Fail> {
         let answer = frame(&mut sink, b"\x40\x01\xaa");
         assert_eq!(rt; answer.is_ok(), framed, "at {failing:?}");
         assert_eq!(rt; sink.bytes(), bytes, "at {failing:?}");
+    }
+    Ok(())
+}
+
+#[test]
+fn a_payload_is_put_into_a_unit_and_taken_out(rt: HostRuntime) -> Result<(), Fail> {
+    let rows = [
+        (b"\0\0\x01".as_slice(), b"\x02\x01\0\0\x03\x01".as_slice()),
+        // Zero bytes at the end.
+        (b"\xaa\0\0".as_slice(), b"\x02\x01\xaa\0\0\x03".as_slice()),
+        (
+            b"\xaa\0\0\0".as_slice(),
+            b"\x02\x01\xaa\0\0\x03\0".as_slice(),
+        ),
+        (b"\0".as_slice(), b"\x02\x01\0".as_slice()),
+        // No payload, and one of zero bytes.
+        (b"".as_slice(), b"\x02\x01".as_slice()),
+        (
+            b"\0\0\0\0\0\0\0".as_slice(),
+            b"\x02\x01\0\0\x03\0\0\x03\0\0\x03\0".as_slice(),
+        ),
+        // Each byte that is prevented, and the least that isn't.
+        (
+            b"\0\0\x02\0\0\x03\0\0\x04\0\0\xff".as_slice(),
+            b"\x02\x01\0\0\x03\x02\0\0\x03\x03\0\0\x04\0\0\xff".as_slice(),
+        ),
+        (
+            b"\0\0\x03\0\0\x03".as_slice(),
+            b"\x02\x01\0\0\x03\x03\0\0\x03\x03".as_slice(),
+        ),
+    ];
+    for (payload, unit) in rows {
+        let head = UnitHead {
+            kind: 1,
+            layer: 0,
+            tid: 0,
+        };
+        let made = escape(rt.alloc(), head, payload)?;
+        assert_eq!(rt; made.as_slice(), unit, "at {payload:?}");
+        let taken = unescape(rt.alloc(), unit)?;
+        assert_eq!(rt; taken.as_slice(), payload, "at {unit:?}");
+    }
+    Ok(())
+}
+
+#[test]
+fn a_head_stands_before_its_payload(rt: HostRuntime) -> Result<(), Fail> {
+    // The zero byte of the least head stands in no pair.
+    let least = UnitHead {
+        kind: 0,
+        layer: 0,
+        tid: 0,
+    };
+    let unit = escape(rt.alloc(), least, b"\0\0\0")?;
+    assert_eq!(rt; unit.as_slice(), b"\0\x01\0\0\x03\0".as_slice());
+    let greatest = UnitHead {
+        kind: 63,
+        layer: 63,
+        tid: 6,
+    };
+    let unit = escape(rt.alloc(), greatest, b"\0\x03")?;
+    assert_eq!(rt; unit.as_slice(), b"\x7f\xff\0\x03".as_slice());
+    Ok(())
+}
+
+#[test]
+fn a_video_parameter_set_comes_back(rt: HostRuntime) -> Result<(), Fail> {
+    let unit = b"\x40\x01\x0c\x11\xff\xff\x01\x60\0\0\x03\0\x90\0\0\x03\0\0\x03\0\x5d\xac\x15\xbf\
+        \x5d\x20\0\x04\x59\x70\x60\x20\0\0\x09\0\0\x03\0\0\x03\0\x05\xd8\xd0\x04\0\x04\x0a\0\x89\x7d\x20";
+    let payload = unescape(rt.alloc(), unit)?;
+    let bytes = b"\x0c\x11\xff\xff\x01\x60\0\0\0\x90\0\0\0\0\0\x5d\xac\x15\xbf\
+        \x5d\x20\0\x04\x59\x70\x60\x20\0\0\x09\0\0\0\0\0\x05\xd8\xd0\x04\0\x04\x0a\0\x89\x7d\x20";
+    assert_eq!(rt; payload.as_slice(), bytes.as_slice());
+    let head = UnitHead {
+        kind: 32,
+        layer: 0,
+        tid: 0,
+    };
+    let again = escape(rt.alloc(), head, payload.as_slice())?;
+    assert_eq!(rt; again.as_slice(), unit.as_slice());
+    Ok(())
+}
+
+#[test]
+fn the_zero_bytes_before_a_prevented_byte_may_be_the_head(rt: HostRuntime) -> Result<(), Fail> {
+    let rows = [
+        (b"\0\0\x03\x07".as_slice(), b"\x07".as_slice()),
+        (b"\x02\0\0\x03\x01".as_slice(), b"\0\x01".as_slice()),
+        // One zero byte before 03, and 03 behind a 03 that was put in.
+        (
+            b"\x02\x01\0\x03\0\0\x03\x03".as_slice(),
+            b"\0\x03\0\0\x03".as_slice(),
+        ),
+        (
+            b"\x02\x01\0\0\x03\0\x03".as_slice(),
+            b"\0\0\0\x03".as_slice(),
+        ),
+        (b"\x02\x01".as_slice(), b"".as_slice()),
+        (b"\x02".as_slice(), b"".as_slice()),
+        (b"".as_slice(), b"".as_slice()),
+    ];
+    for (unit, payload) in rows {
+        let taken = unescape(rt.alloc(), unit)?;
+        assert_eq!(rt; taken.as_slice(), payload, "at {unit:?}");
     }
     Ok(())
 }

@@ -1,5 +1,5 @@
 -- What the sink for faults gained by one text.
-use Rattle.std.proofs.Common.{◌≡◌, ℕ, ◌<◌, List, length, take, Option, Result, Ok, Err, OnOk, OnErr, subst, sym, arith}
+use Rattle.std.proofs.Common.{ℕ, List, length, Option, Result, Ok, Err, OnOk, OnErr, subst, sym, arith}
 use Rattle.std.proofs.Math.Seq.{take-length}
 use Rattle.mv_io.specs.declared.sink.SinkFailed.{SinkFailed}
 use Rattle.mv_io.specs.Faults.{HasCause}

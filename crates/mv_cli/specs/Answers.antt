@@ -1,14 +1,15 @@
 -- How the program answers (this project's profile): the cause of each status, and what it leaves on the
 -- output and on the sink for faults.
-use Rattle.std.specs.Prelude.{ℕ, ◌≡◌, ◌<◌, ◌⊎◌, nat_lt, List, length, take, Option, None, Some, IfSome, if◌then◌else◌}
+use Rattle.std.specs.Prelude.{ℕ, ◌≡◌, ◌<◌, ◌⊎◌, List, length, take, IfSome, Result, Ok, Err, ⊤}
 use Rattle.mv_io.specs.declared.refusal.Refusal.{Refusal}
 use Rattle.mv_io.specs.Sink.{Appends}
-use Rattle.mv_defs.specs.Verdict.{verdict_of}
-use Rattle.mv_extract.specs.Answers.{Accepts, Refuses, ReadFails, WriteFails, TooLongs, MemoryEnds}
+use Rattle.mv_extract.specs.declared.error.ExtractError.{ExtractError}
+use Rattle.mv_extract.specs.declared.error.ExtractError.TheVariants.{Refused as RefusedBy, Read, Write, TooLong as TooManyBytes, Memory}
+use Rattle.mv_extract.specs.Answers.{Accepts, Refuses, ReadFails, WriteFails, TooLongs, MemoryEnds, due}
 use Rattle.mv_extract.specs.Call.{Input, Output, InputRose, OutputRose, Untouched}
 use Rattle.mv_cli.specs.declared.ending.Ending.{Ending}
 use Rattle.mv_cli.specs.declared.ending.Ending.TheVariants.{Done, Refused, Usage, ReadFault, WriteFault, NoMemory, TooLong}
-use Rattle.mv_cli.specs.Ending.{status_of, line_of}
+use Rattle.mv_cli.specs.Ending.{status_of, line_of, refusal_line}
 use Rattle.mv_cli.specs.Words.{IsForm}
 
 -- when each ending comes, and what the input gave and the output gained
@@ -34,23 +35,28 @@ pub record Answers (words : List (List ℕ)) (limit : ℕ) (input : Input) (outp
   pub caused : Caused words limit input output ending
   pub line : Tells faults (line_of ending)
 
--- the status that the bytes of an input decide: 7 where there are more than the limit, 0 where they are
--- accepted, 1 where they are refused
-abbrev pub status_by : Option Refusal → ℕ
-status_by None = 0
-status_by (Some refusal) = 1
+-- the status of an answer of extraction
+abbrev pub answer_status : Result ⊤ ExtractError → ℕ
+answer_status (Ok _) = 0
+answer_status (Err (RefusedBy refusal)) = 1
+answer_status (Err Read) = 3
+answer_status (Err Write) = 4
+answer_status (Err Memory) = 5
+answer_status (Err TooManyBytes) = 7
 
-abbrev pub due_status : ℕ → List ℕ → ℕ
-due_status limit held = if nat_lt limit (length held) then 7 else status_by (verdict_of held)
-
--- The program succeeds exactly when the stream is accepted, and then writes the kept units:
-pub record Headline (words : List (List ℕ)) (limit : ℕ) (input : Input) (output : Output) (status : ℕ) : Type 0 where
-  -- status 0 comes only for a stream that is accepted, and the output gained exactly its extract, framed
+-- The program succeeds exactly when the stream is accepted, and then writes the kept units in order; any other
+-- stream is refused at its first offending unit and rule:
+pub record Headline (words : List (List ℕ)) (limit : ℕ) (input : Input) (output faults : Output) (status : ℕ) : Type 0 where
+  -- status 0 comes only for a stream that is accepted, and the output gained exactly its kept units, framed
   pub succeeds : status ≡ 0 → IsForm words × Accepts limit input output
+  -- status 1 comes only for a stream that is refused, the output gained exactly its kept units before the
+  -- refused one, and the line on the sink for faults names unit, byte and rule
+  pub refused : status ≡ 1 →
+      (refusal : Refusal) × IsForm words × Refuses limit input output refusal × Tells faults (refusal_line refusal)
   -- where neither the input nor the output failed and the input tells its bytes, they decide the status, or
   -- memory was wanting
   pub decided : IsForm words → ¬ InputRose input → ¬ OutputRose output →
-      IfSome input.old (λ was. (status ≡ due_status limit was.left) ⊎ (status ≡ 5))
+      IfSome input.old (λ was. (status ≡ answer_status (due limit was.left)) ⊎ (status ≡ 5))
   -- status 2 comes exactly where the words are no form
   pub usage : ¬ IsForm words → status ≡ 2
   pub form : status ≡ 2 → ¬ IsForm words

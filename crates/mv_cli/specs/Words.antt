@@ -1,5 +1,5 @@
 -- The words that the program takes (this project's profile).
-use Rattle.std.specs.Prelude.{ℕ, ◌≡◌, List, [], ◌∷◌, ◌++◌, codes}
+use Rattle.std.specs.Prelude.{ℕ, ◌≡◌, List, [], ◌∷◌, codes}
 
 -- the words `extract` and `0`, and no others
 abbrev pub IsForm : List (List ℕ) → Type 0

@@ -1,5 +1,5 @@
 //! mv_cli, an extractor of sub-bitstreams of MV-HEVC byte streams: `mv_cli extract 0` reads a byte stream
-//! from the standard input, and writes the units of its base layer on the standard output.
+//! from the standard input, and writes the units of its base layer on the standard output as they come.
 #![tactic(auto)]
 
 mod ending;
@@ -7,6 +7,8 @@ mod line;
 mod run;
 #[cfg(test)]
 mod tests;
+#[cfg(test)]
+mod two_view_tests;
 
 use mv_io::{StdSink, StdSource};
 pub use run::{run, run_within};

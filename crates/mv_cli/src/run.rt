@@ -30,6 +30,7 @@ pub fn run<S: Source, K: Sink, E: Sink>(
     ensures headline { Headline (map string_bytes words.now) (2 ^ 40)
         (input_of (S.told input.old) (S.told input.new) (S.faults input.old) (S.faults input.new))
         (output_of (K.taken output.old) (K.taken output.new) (K.faults output.old) (K.faults output.new))
+        (output_of (E.taken faults.old) (E.taken faults.new) (E.faults faults.old) (E.faults faults.new))
         result }
 {
     run_within(alloc, words, input, output, faults, LIMIT)
@@ -38,10 +39,12 @@ pub fn run<S: Source, K: Sink, E: Sink>(
 /// Does what the words say, with at most `limit` bytes of input, and gives the exit status.
 ///
 /// The words are `extract` and `0`: the units of layer 0 are written on the output, each behind the bytes
-/// `00 00 00 01`. The status is 0 where the job is done, and 1 where the stream is refused. 2 comes exactly
-/// where the words are others. 3 comes only where the input's count of faults rose in this call, and 4 only
-/// where the output's did. 5 is want of memory. 7 comes exactly where the input has more bytes than the limit.
-/// Each status but 0 has its line, which is written on `faults`. A failure there changes no status.
+/// `00 00 00 01`, as soon as they are taken whole. The status is 0 where the stream is accepted and was read to
+/// its end, and 1 where it is refused: as soon as the bytes taken show that, and then the units before the
+/// refused one were written. 2 comes exactly where the words are others. 3 comes only where the input's count of
+/// faults rose in this call, and 4 only where the output's did. 5 is want of memory. 7 comes exactly where
+/// `limit` bytes were taken, they show no refusal, and the input gave another. Each status but 0 has its line,
+/// which is written on `faults`. A failure there changes no status.
 pub fn run_within<S: Source, K: Sink, E: Sink>(
     alloc: Global,
     words: &[String],
@@ -58,6 +61,7 @@ pub fn run_within<S: Source, K: Sink, E: Sink>(
     ensures headline { Headline (map string_bytes words.now) limit
         (input_of (S.told input.old) (S.told input.new) (S.faults input.old) (S.faults input.new))
         (output_of (K.taken output.old) (K.taken output.new) (K.faults output.old) (K.faults output.new))
+        (output_of (E.taken faults.old) (E.taken faults.new) (E.faults faults.old) (E.faults faults.new))
         result }
 {
     let ending = end(alloc, words, input, output, limit);

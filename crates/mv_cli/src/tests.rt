@@ -1,5 +1,5 @@
 use crate::run::run_within;
-use mv_io::{MemSink, MemSource};
+use mv_io::{MemSink, MemSource, Source};
 use std::alloc::Global;
 use std::process::Abort;
 use std::test::Fail;
@@ -12,20 +12,20 @@ const USAGE: &str = "usage: mv_cli extract N | digest N | check | show | gen NUM
 
 // A run over the memory ends: what comes in, and what has to come out.
 #[derive(Clone, Copy)]
-struct Row<'a> {
-    words: &'a [&'a str],
-    input: &'a [u8],
-    limit: u64,
-    pieces: &'a [u32],
-    failing_reads: &'a [u64],
-    failing_writes: &'a [u64],
-    failing_faults: &'a [u64],
-    status: u8,
-    output: &'a [u8],
-    line: &'a str,
+pub struct Row<'a> {
+    pub words: &'a [&'a str],
+    pub input: &'a [u8],
+    pub limit: u64,
+    pub pieces: &'a [u32],
+    pub failing_reads: &'a [u64],
+    pub failing_writes: &'a [u64],
+    pub failing_faults: &'a [u64],
+    pub status: u8,
+    pub output: &'a [u8],
+    pub line: &'a str,
 }
 
-const PLAIN: Row<'static> = Row {
+pub const PLAIN: Row<'static> = Row {
     words: &["extract", "0"],
     input: &TWELVE,
     limit: 1000,
@@ -38,25 +38,35 @@ const PLAIN: Row<'static> = Row {
     line: "",
 };
 
-fn check(rt: &impl Abort, alloc: Global, row: &Row) -> Result<(), Fail> {
+// What came out of a run.
+#[derive(Drop)]
+pub struct Outcome {
+    pub status: u8,
+    pub output: MemSink,
+    pub faults: MemSink,
+}
+
+pub fn run_on<S: Source>(alloc: Global, row: &Row, input: &mut S) -> Result<Outcome, Fail> {
     let mut words = Vec::new(alloc);
     for word in row.words {
         words.push(String::from_str(alloc, word)?)?;
     }
-    let mut input = MemSource::new(alloc, row.input, row.pieces, row.failing_reads)?;
     let mut output = MemSink::new(alloc, 1000, row.failing_writes)?;
     let mut faults = MemSink::new(alloc, 1000, row.failing_faults)?;
-    let status = run_within(
-        alloc,
-        &words,
-        &mut input,
-        &mut output,
-        &mut faults,
-        row.limit,
-    );
-    assert_eq!(rt; status, row.status);
-    assert_eq!(rt; output.bytes(), row.output);
-    assert_eq!(rt; faults.bytes(), row.line.as_bytes());
+    let status = run_within(alloc, &words, input, &mut output, &mut faults, row.limit);
+    Ok(Outcome {
+        status,
+        output,
+        faults,
+    })
+}
+
+pub fn check(rt: &impl Abort, alloc: Global, row: &Row) -> Result<(), Fail> {
+    let mut input = MemSource::new(alloc, row.input, row.pieces, row.failing_reads)?;
+    let outcome = run_on(alloc, row, &mut input)?;
+    assert_eq!(rt; outcome.status, row.status);
+    assert_eq!(rt; outcome.output.bytes(), row.output);
+    assert_eq!(rt; outcome.faults.bytes(), row.line.as_bytes());
     Ok(())
 }
 
@@ -103,6 +113,13 @@ fn streams(rt: HostRuntime) -> Result<(), Fail> {
             ..PLAIN
         },
         Row {
+            input: &[0, 0, 1, 0x26, 1, 0, 0, 2, 0xD0],
+            status: 1,
+            output: &[],
+            line: "refused: unit 0 at byte 3: rule 3 Emulation\n",
+            ..PLAIN
+        },
+        Row {
             input: &zeros,
             limit: 10,
             status: 7,
@@ -137,7 +154,6 @@ fn faults(rt: HostRuntime) -> Result<(), Fail> {
         Row {
             failing_reads: &[1],
             status: 3,
-            output: &[],
             line: "read fault\n",
             ..PLAIN
         },

@@ -62,11 +62,11 @@ set_facts idx num earlier s h =
     let index : or_zero s.delta_idx_minus1 ≤ idx - 1 = within (c && nat_eq idx num) (idx - 1) s.delta_idx_minus1 i.1.0 in
     let later : c ≡ true → 0 < idx = λ e. ltb-true 0 idx (coded_flag (nat_lt 0 idx) 1 s.inter_ref_pic_set_prediction_flag i.0 e) in
     let flags : (length s.used_by_curr_pic_flag ≡ num_candidates c ref) × (length s.use_delta_flag ≡ num_candidates c ref) =
-      columns-lengths candidate_flags 0 (num_candidates c ref) s.used_by_curr_pic_flag s.use_delta_flag j.0 in
+    columns-lengths candidate_flags 0 (num_candidates c ref) s.used_by_curr_pic_flag s.use_delta_flag j.0 in
     let lengths0 : (length s.delta_poc_s0_minus1 ≡ or_zero s.num_negative_pics) × (length s.used_by_curr_pic_s0_flag ≡ or_zero s.num_negative_pics) =
-      columns-lengths (picture Before) 0 (or_zero s.num_negative_pics) s.delta_poc_s0_minus1 s.used_by_curr_pic_s0_flag j.1.1.1.0 in
+    columns-lengths (picture Before) 0 (or_zero s.num_negative_pics) s.delta_poc_s0_minus1 s.used_by_curr_pic_s0_flag j.1.1.1.0 in
     let lengths1 : (length s.delta_poc_s1_minus1 ≡ or_zero s.num_positive_pics) × (length s.used_by_curr_pic_s1_flag ≡ or_zero s.num_positive_pics) =
-      columns-lengths (picture After) 0 (or_zero s.num_positive_pics) s.delta_poc_s1_minus1 s.used_by_curr_pic_s1_flag j.1.1.1.1 in
+    columns-lengths (picture After) 0 (or_zero s.num_positive_pics) s.delta_poc_s1_minus1 s.used_by_curr_pic_s1_flag j.1.1.1.1 in
     let most0 : or_zero s.num_negative_pics ≤ 16 = within (not c) 16 s.num_negative_pics j.1.0 in
     let most1 : or_zero s.num_positive_pics ≤ 16 = sum_within (not c) (or_zero s.num_negative_pics) 16 s.num_positive_pics j.1.1.0 in
     record {
@@ -79,7 +79,8 @@ set_facts idx num earlier s h =
       low0 = pictures-low Before (or_zero s.num_negative_pics) s.delta_poc_s0_minus1 s.used_by_curr_pic_s0_flag j.1.1.1.0;
       flags1 = lengths1.1 ∙ sym lengths1.0;
       few1 = omega (arith, lengths1.0);
-      low1 = pictures-low After (or_zero s.num_positive_pics) s.delta_poc_s1_minus1 s.used_by_curr_pic_s1_flag j.1.1.1.1 }
+      low1 = pictures-low After (or_zero s.num_positive_pics) s.delta_poc_s1_minus1 s.used_by_curr_pic_s1_flag j.1.1.1.1;
+    }
 
 -- what holds of its fields, and that its deltas are at most 16
 pub fields_valid : (idx num : ℕ) (earlier : List (List Delta)) (s : ShortSetValue) → Valid (st_ref_pic_set idx num earlier) s → Valid (set_fields idx num earlier) s
@@ -92,19 +93,20 @@ deltas-few idx num earlier s h = ltb-false 16 (length (deltas idx earlier s)) h.
 
 -- its deltas stand near, where those of the sets before it do
 pub deltas-near : (idx : ℕ) (earlier : List (List Delta)) (s : ShortSetValue) → SetFacts idx earlier s
-  → ((r : ℕ) → r < idx → All (IsNear (32768 * (r + 16))) (get_or earlier r []))
-  → All (IsNear (32768 * (idx + 16))) (deltas idx earlier s)
+    → ((r : ℕ) → r < idx → All (IsNear (32768 * (r + 16))) (get_or earlier r []))
+    → All (IsNear (32768 * (idx + 16))) (deltas idx earlier s)
 unfolding deltas
 deltas-near idx earlier s facts before = go (coded_set s.inter_ref_pic_set_prediction_flag) refl
   where
     r : ℕ
     r = idx - or_zero s.delta_idx_minus1 - 1
+
     go : (c : Bool) → coded_set s.inter_ref_pic_set_prediction_flag ≡ c
-      → All (IsNear (32768 * (idx + 16))) (if c then predicted (reference idx earlier s.delta_idx_minus1) s else direct s)
+        → All (IsNear (32768 * (idx + 16))) (if c then predicted (reference idx earlier s.delta_idx_minus1) s else direct s)
     go true e =
-      let lower : or_zero s.delta_idx_minus1 < idx = facts.back e in
-      let less : idx - or_zero s.delta_idx_minus1 - 1 < idx = omega arith in
-      All-weaker (IsNear (32768 * (idx - or_zero s.delta_idx_minus1 - 1 + 16) + 32768)) (IsNear (32768 * (idx + 16)))
+        let lower : or_zero s.delta_idx_minus1 < idx = facts.back e in
+        let less : idx - or_zero s.delta_idx_minus1 - 1 < idx = omega arith in
+        All-weaker (IsNear (32768 * (idx - or_zero s.delta_idx_minus1 - 1 + 16) + 32768)) (IsNear (32768 * (idx + 16)))
         (λ one near. near_more (32768 * (idx - or_zero s.delta_idx_minus1 - 1 + 16) + 32768) (32768 * (idx + 16)) one (omega arith) near)
         (predicted (reference idx earlier s.delta_idx_minus1) s)
         (predicted-near (32768 * (idx - or_zero s.delta_idx_minus1 - 1 + 16)) (reference idx earlier s.delta_idx_minus1) s facts.abs (before (idx - or_zero s.delta_idx_minus1 - 1) less))
@@ -112,36 +114,46 @@ deltas-near idx earlier s facts before = go (coded_set s.inter_ref_pic_set_predi
 
 -- ---- the sets before it
 valid-at : (num : ℕ) (sets : List ShortSetValue) (k : ℕ) (x : ShortSetValue) → ValidSets num sets → k < length sets
-  → Valid (st_ref_pic_set k num (deltas_of_each (take k sets))) (get_or sets k x)
+    → Valid (st_ref_pic_set k num (deltas_of_each (take k sets))) (get_or sets k x)
 valid-at num sets k x h lt =
     let here : Valid (st_ref_pic_set (length (take k sets)) num (deltas_of_each (take k sets))) (get_or sets k x) =
-      each-valid (λ before s. Valid (st_ref_pic_set (length before) num (deltas_of_each before)) s) [] sets k x h lt in
+    each-valid (λ before s. Valid (st_ref_pic_set (length before) num (deltas_of_each before)) s) [] sets k x h lt in
     subst (λ i. Valid (st_ref_pic_set i num (deltas_of_each (take k sets))) (get_or sets k x)) (length-take-le k sets (omega arith)) here
 
 no_set : ShortSetValue
 no_set = record {
-  inter_ref_pic_set_prediction_flag = None; delta_idx_minus1 = None; delta_rps_sign = None; abs_delta_rps_minus1 = None;
-  used_by_curr_pic_flag = []; use_delta_flag = []; num_negative_pics = None; num_positive_pics = None;
-  delta_poc_s0_minus1 = []; used_by_curr_pic_s0_flag = []; delta_poc_s1_minus1 = []; used_by_curr_pic_s1_flag = [] }
+  inter_ref_pic_set_prediction_flag = None;
+  delta_idx_minus1 = None;
+  delta_rps_sign = None;
+  abs_delta_rps_minus1 = None;
+  used_by_curr_pic_flag = [];
+  use_delta_flag = [];
+  num_negative_pics = None;
+  num_positive_pics = None;
+  delta_poc_s0_minus1 = [];
+  used_by_curr_pic_s0_flag = [];
+  delta_poc_s1_minus1 = [];
+  used_by_curr_pic_s1_flag = [];
+}
 
 near-below : (num : ℕ) (sets : List ShortSetValue) → ValidSets num sets → (n : ℕ) → n ≤ length sets → (k : ℕ) → k < n
-  → All (IsNear (32768 * (k + 16))) (get_or (deltas_of_each sets) k [])
+    → All (IsNear (32768 * (k + 16))) (get_or (deltas_of_each sets) k [])
 near-below num sets h zero within k lt = absurd (omega arith)
 near-below num sets h (suc n) within k lt = go (nat_lt k n) refl (near-below num sets h n (omega arith))
   where
     go : (b : Bool) → nat_lt k n ≡ b → ((j : ℕ) → j < n → All (IsNear (32768 * (j + 16))) (get_or (deltas_of_each sets) j []))
-      → All (IsNear (32768 * (k + 16))) (get_or (deltas_of_each sets) k [])
+        → All (IsNear (32768 * (k + 16))) (get_or (deltas_of_each sets) k [])
     go true e below = below k (ltb-true k n e)
     go false e below =
-      let last : n ≤ k = ltb-false k n e in
-      let in_sets : k < length sets = omega arith in
-      rw (deltas-at sets k no_set in_sets)
+        let last : n ≤ k = ltb-false k n e in
+        let in_sets : k < length sets = omega arith in
+        rw (deltas-at sets k no_set in_sets)
         (deltas-near k (deltas_of_each (take k sets)) (get_or sets k no_set)
-          (set_facts k num (deltas_of_each (take k sets)) (get_or sets k no_set)
-            (fields_valid k num (deltas_of_each (take k sets)) (get_or sets k no_set) (valid-at num sets k no_set h in_sets)))
-          (λ r less. subst (λ l. All (IsNear (32768 * (r + 16))) l)
-            (sym (get_or-take k (deltas_of_each sets) r [] less) ∙ ap (λ l. get_or l r []) (deltas_of_each-take k sets))
-            (below r (omega arith))))
+        (set_facts k num (deltas_of_each (take k sets)) (get_or sets k no_set)
+        (fields_valid k num (deltas_of_each (take k sets)) (get_or sets k no_set) (valid-at num sets k no_set h in_sets)))
+        (λ r less. subst (λ l. All (IsNear (32768 * (r + 16))) l)
+        (sym (get_or-take k (deltas_of_each sets) r [] less) ∙ ap (λ l. get_or l r []) (deltas_of_each-take k sets))
+        (below r (omega arith))))
 
 -- what is known of the reference set's deltas
 pub record ReferenceFacts (some : List Delta) : Type 0 where
@@ -153,14 +165,15 @@ pub reference_facts : (idx num : ℕ) (sets : List ShortSetValue) (r : ℕ) → 
 reference_facts idx num sets r args less =
     let in_sets : r < length sets = omega (arith, args.all_earlier) in
     let few : length (deltas r (deltas_of_each (take r sets)) (get_or sets r no_set)) ≤ 16 =
-      deltas-few r num (deltas_of_each (take r sets)) (get_or sets r no_set) (valid-at num sets r no_set args.valid in_sets) in
+    deltas-few r num (deltas_of_each (take r sets)) (get_or sets r no_set) (valid-at num sets r no_set args.valid in_sets) in
     let is : deltas r (deltas_of_each (take r sets)) (get_or sets r no_set) ≡ get_or (deltas_of_each sets) r [] = sym (deltas-at sets r no_set in_sets) in
     record {
       few = subst (λ l. length l ≤ 16) is few;
       near = All-weaker (IsNear (32768 * (r + 16))) (IsNear (2 ^ 22))
-        (λ one near. near_more (32768 * (r + 16)) (2 ^ 22) one (omega (arith, args.few, args.within)) near)
-        (get_or (deltas_of_each sets) r []) (near-below num sets args.valid (length sets) (omega arith) r in_sets);
-      sides = subst IsSided is (deltas-sided r (deltas_of_each (take r sets)) (get_or sets r no_set)) }
+          (λ one near. near_more (32768 * (r + 16)) (2 ^ 22) one (omega (arith, args.few, args.within)) near)
+          (get_or (deltas_of_each sets) r []) (near-below num sets args.valid (length sets) (omega arith) r in_sets);
+      sides = subst IsSided is (deltas-sided r (deltas_of_each (take r sets)) (get_or sets r no_set));
+    }
 
 -- a set before it is valid among the sets before that
 pub record EarlierFacts (r num : ℕ) (sets : List ShortSetValue) (x : ShortSetValue) : Type 0 where
@@ -176,32 +189,34 @@ earlier_facts idx num sets r x args less =
         within = omega (arith, args.within);
         few = args.few;
         all_earlier = length-take-le r sets (omega arith);
-        valid = each-take (λ before s. Valid (st_ref_pic_set (length before) num (deltas_of_each before)) s) [] sets r args.valid };
+        valid = each-take (λ before s. Valid (st_ref_pic_set (length before) num (deltas_of_each before)) s) [] sets r args.valid;
+      };
       valid = fields_valid r num (deltas_of_each (take r sets)) (get_or sets r x) (valid-at num sets r x args.valid in_sets);
-      is = deltas-at sets r x in_sets }
+      is = deltas-at sets r x in_sets;
+    }
 
 -- the candidates' flags are as many as are counted
 pub candidates_counted : (idx num : ℕ) (earlier : List (List Delta)) (s : ShortSetValue) → Valid (set_fields idx num earlier) s
-  → length s.used_by_curr_pic_flag ≡ num_candidates (coded_set s.inter_ref_pic_set_prediction_flag) (reference idx earlier s.delta_idx_minus1)
+    → length s.used_by_curr_pic_flag ≡ num_candidates (coded_set s.inter_ref_pic_set_prediction_flag) (reference idx earlier s.delta_idx_minus1)
 unfolding set_fields
 candidates_counted idx num earlier s h =
     (columns-lengths candidate_flags 0 (num_candidates (coded_set s.inter_ref_pic_set_prediction_flag) (reference idx earlier s.delta_idx_minus1))
-      s.used_by_curr_pic_flag s.use_delta_flag h.0.1.1.1.1.0).0
+    s.used_by_curr_pic_flag s.use_delta_flag h.0.1.1.1.1.0).0
 
 -- the deltas of a valid set among others stand near
 pub set_near : (idx num : ℕ) (sets : List ShortSetValue) (s : ShortSetValue) → AreShortArgs idx num sets → Valid (st_ref_pic_set idx num (deltas_of_each sets)) s
-  → All (IsNear (32768 * (idx + 16))) (deltas idx (deltas_of_each sets) s)
+    → All (IsNear (32768 * (idx + 16))) (deltas idx (deltas_of_each sets) s)
 set_near idx num sets s args valid =
     deltas-near idx (deltas_of_each sets) s (set_facts idx num (deltas_of_each sets) s (fields_valid idx num (deltas_of_each sets) s valid))
-      (λ r less. near-below num sets args.valid (length sets) (omega arith) r (omega (arith, args.all_earlier)))
+    (λ r less. near-below num sets args.valid (length sets) (omega arith) r (omega (arith, args.all_earlier)))
 
 -- the candidates' flags are valid as a loop over as many as there are, and are written alike by whichever count
 pub flags_valid : (idx num : ℕ) (earlier : List (List Delta)) (s : ShortSetValue) → Valid (set_fields idx num earlier) s
-  → Valid (columns 0 (length s.used_by_curr_pic_flag) candidate_flags) (s.used_by_curr_pic_flag, s.use_delta_flag)
+    → Valid (columns 0 (length s.used_by_curr_pic_flag) candidate_flags) (s.used_by_curr_pic_flag, s.use_delta_flag)
 unfolding set_fields
 flags_valid idx num earlier s h =
     let here : Valid (columns 0 (num_candidates (coded_set s.inter_ref_pic_set_prediction_flag) (reference idx earlier s.delta_idx_minus1)) candidate_flags) (s.used_by_curr_pic_flag, s.use_delta_flag)
-      = h.0.1.1.1.1.0 in
+    = h.0.1.1.1.1.0 in
     subst (λ n. Valid (columns 0 n candidate_flags) (s.used_by_curr_pic_flag, s.use_delta_flag)) (sym (candidates_counted idx num earlier s h)) here
 
 pub flags_put : (m n : ℕ) (v : List ℕ × List (Option ℕ)) (out : List Bool) → put (columns 0 m candidate_flags) v out ≡ put (columns 0 n candidate_flags) v out
@@ -214,7 +229,7 @@ each-push P before [] v h here = (rw (← append-nil before) here, tt)
 each-push P before (w ∷ vs) v h here = (h.0, each-push P (before ++ w ∷ []) vs v h.1 (rw (append_assoc before (w ∷ []) vs) here))
 
 pub sets_push : (num idx : ℕ) (sets more : List ShortSetValue) (s : ShortSetValue) → ValidSets num sets → length sets ≡ idx → more ≡ sets ++ s ∷ []
-  → Valid (st_ref_pic_set idx num (deltas_of_each sets)) s → ValidSets num more
+    → Valid (st_ref_pic_set idx num (deltas_of_each sets)) s → ValidSets num more
 sets_push num idx sets more s h count is valid =
     rw is (each-push (λ before one. Valid (st_ref_pic_set (length before) num (deltas_of_each before)) one) [] sets s h
-      (subst (λ i. Valid (st_ref_pic_set i num (deltas_of_each sets)) s) (sym count) valid))
+    (subst (λ i. Valid (st_ref_pic_set i num (deltas_of_each sets)) s) (sym count) valid))

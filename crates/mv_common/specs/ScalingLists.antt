@@ -18,23 +18,24 @@ coefficients coded s = items 0 (if coded then num_coefficients s else 0) coeffic
 -- One list of size s, for blocks of 2 ^ (2 + s) by 2 ^ (2 + s) samples.
 unfoldable pub scaling_list : ℕ → Table ScalingListValue
 scaling_list s = shaped
-  (λ c. record {
-    scaling_list_pred_mode_flag = c.0;
-    scaling_list_pred_matrix_id_delta = c.1.0;
-    scaling_list_dc_coef_minus8 = c.1.1.0;
-    scaling_list_delta_coef = c.1.1.1 })
-  (λ v.
+    (λ c. record {
+      scaling_list_pred_mode_flag = c.0;
+      scaling_list_pred_matrix_id_delta = c.1.0;
+      scaling_list_dc_coef_minus8 = c.1.1.0;
+      scaling_list_delta_coef = c.1.1.1;
+    })
+    (λ v.
     v.scaling_list_pred_mode_flag
     ▸ v.scaling_list_pred_matrix_id_delta
     ▸ v.scaling_list_dc_coef_minus8
     ▸ v.scaling_list_delta_coef)
-  (λ _. refl)
-  do
-    scaling_list_pred_mode_flag ← named "scaling_list_pred_mode_flag" (u 1)
-    let has_coefficients : Bool = is_set scaling_list_pred_mode_flag in do
-      named "scaling_list_pred_matrix_id_delta" (when (not has_coefficients) ue)
-      named "scaling_list_dc_coef_minus8" (when (has_coefficients && nat_lt 1 s) se)
-      coefficients has_coefficients s
+    (λ _. refl)
+    do
+      scaling_list_pred_mode_flag ← named "scaling_list_pred_mode_flag" (u 1)
+      let has_coefficients : Bool = is_set scaling_list_pred_mode_flag in do
+        named "scaling_list_pred_matrix_id_delta" (when (not has_coefficients) ue)
+        named "scaling_list_dc_coef_minus8" (when (has_coefficients && nat_lt 1 s) se)
+        coefficients has_coefficients s
 
 -- The lists of size s are those of matrices 0 to 5, of size 3 those of matrices 0 and 3.
 abbrev pub matrix_step : ℕ → ℕ

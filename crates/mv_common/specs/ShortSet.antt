@@ -38,20 +38,21 @@ num_candidates is_predicted reference = if is_predicted then length reference + 
 -- The fields of set idx of num, where the sets before it have the deltas `earlier`.
 unfoldable pub set_fields : ℕ → ℕ → List (List Delta) → Table ShortSetValue
 set_fields idx num earlier = shaped
-  (λ c. record {
-    inter_ref_pic_set_prediction_flag = c.0;
-    delta_idx_minus1 = c.1.0;
-    delta_rps_sign = c.1.1.0;
-    abs_delta_rps_minus1 = c.1.1.1.0;
-    used_by_curr_pic_flag = c.1.1.1.1.0.0;
-    use_delta_flag = c.1.1.1.1.0.1;
-    num_negative_pics = c.1.1.1.1.1.0;
-    num_positive_pics = c.1.1.1.1.1.1.0;
-    delta_poc_s0_minus1 = c.1.1.1.1.1.1.1.0.0;
-    used_by_curr_pic_s0_flag = c.1.1.1.1.1.1.1.0.1;
-    delta_poc_s1_minus1 = c.1.1.1.1.1.1.1.1.0;
-    used_by_curr_pic_s1_flag = c.1.1.1.1.1.1.1.1.1 })
-  (λ s.
+    (λ c. record {
+      inter_ref_pic_set_prediction_flag = c.0;
+      delta_idx_minus1 = c.1.0;
+      delta_rps_sign = c.1.1.0;
+      abs_delta_rps_minus1 = c.1.1.1.0;
+      used_by_curr_pic_flag = c.1.1.1.1.0.0;
+      use_delta_flag = c.1.1.1.1.0.1;
+      num_negative_pics = c.1.1.1.1.1.0;
+      num_positive_pics = c.1.1.1.1.1.1.0;
+      delta_poc_s0_minus1 = c.1.1.1.1.1.1.1.0.0;
+      used_by_curr_pic_s0_flag = c.1.1.1.1.1.1.1.0.1;
+      delta_poc_s1_minus1 = c.1.1.1.1.1.1.1.1.0;
+      used_by_curr_pic_s1_flag = c.1.1.1.1.1.1.1.1.1;
+    })
+    (λ s.
     s.inter_ref_pic_set_prediction_flag
     ▸ s.delta_idx_minus1
     ▸ s.delta_rps_sign
@@ -61,19 +62,19 @@ set_fields idx num earlier = shaped
     ▸ s.num_positive_pics
     ▸ (s.delta_poc_s0_minus1, s.used_by_curr_pic_s0_flag)
     ▸ (s.delta_poc_s1_minus1, s.used_by_curr_pic_s1_flag))
-  (λ _. refl)
-  do
-    inter_ref_pic_set_prediction_flag ← named "inter_ref_pic_set_prediction_flag" (when (nat_lt 0 idx) (u 1))
-    let is_predicted : Bool = coded_set inter_ref_pic_set_prediction_flag in do
-      delta_idx_minus1 ← named "delta_idx_minus1" (when (is_predicted && nat_eq idx num) (ue ! 0 ∶ over (idx - 1)))
-      named "delta_rps_sign" (when is_predicted (u 1))
-      named "abs_delta_rps_minus1" (when is_predicted (ue ! 0 ∶ over 32767))
-      columns 0 (num_candidates is_predicted (reference idx earlier delta_idx_minus1)) candidate_flags
-      num_negative_pics ← named "num_negative_pics" (when (not is_predicted) (ue ! 0 ∶ over 16))
-      num_positive_pics ← named "num_positive_pics"
-        (when (not is_predicted) (ue ! 0 ∶ (λ n. over 16 (or_zero num_negative_pics + n))))
-      columns 0 (or_zero num_negative_pics) (picture Before)
-      columns 0 (or_zero num_positive_pics) (picture After)
+    (λ _. refl)
+    do
+      inter_ref_pic_set_prediction_flag ← named "inter_ref_pic_set_prediction_flag" (when (nat_lt 0 idx) (u 1))
+      let is_predicted : Bool = coded_set inter_ref_pic_set_prediction_flag in do
+        delta_idx_minus1 ← named "delta_idx_minus1" (when (is_predicted && nat_eq idx num) (ue ! 0 ∶ over (idx - 1)))
+        named "delta_rps_sign" (when is_predicted (u 1))
+        named "abs_delta_rps_minus1" (when is_predicted (ue ! 0 ∶ over 32767))
+        columns 0 (num_candidates is_predicted (reference idx earlier delta_idx_minus1)) candidate_flags
+        num_negative_pics ← named "num_negative_pics" (when (not is_predicted) (ue ! 0 ∶ over 16))
+        num_positive_pics ← named "num_positive_pics"
+            (when (not is_predicted) (ue ! 0 ∶ (λ n. over 16 (or_zero num_negative_pics + n))))
+        columns 0 (or_zero num_negative_pics) (picture Before)
+        columns 0 (or_zero num_positive_pics) (picture After)
 
 -- The set: behind its last field it is past its limit where it has over 16 deltas.
 unfoldable pub st_ref_pic_set : ℕ → ℕ → List (List Delta) → Table ShortSetValue

@@ -42,7 +42,12 @@ pub(crate) fn or_zero(field: Option<u32>) -> u32
 }
 
 /// Adds the pictures of one side of a set that is coded directly.
-fn add_steps(out: &mut Vec<Delta>, side: Side, minus1: &[u32], flags: &[u8]) -> Result<(), AllocError>
+fn add_steps(
+    out: &mut Vec<Delta>,
+    side: Side,
+    minus1: &[u32],
+    flags: &[u8],
+) -> Result<(), AllocError>
     requires flags { length flags.now ≡ length minus1.now }
     requires few { length minus1.now ≤ 16 }
     requires low { All (λ m. m ≤ 32767) minus1.now }
@@ -71,8 +76,18 @@ fn direct_deltas(alloc: Global, set: &ShortSet) -> Result<Vec<Delta>, AllocError
     ensures { IfOk result (λ v. v.items ≡ direct set.now) }
 {
     let mut out = Vec::new(alloc);
-    add_steps(&mut out, Side::Before, &set.delta_poc_s0_minus1, &set.used_by_curr_pic_s0_flag)?;
-    add_steps(&mut out, Side::After, &set.delta_poc_s1_minus1, &set.used_by_curr_pic_s1_flag)?;
+    add_steps(
+        &mut out,
+        Side::Before,
+        &set.delta_poc_s0_minus1,
+        &set.used_by_curr_pic_s0_flag,
+    )?;
+    add_steps(
+        &mut out,
+        Side::After,
+        &set.delta_poc_s1_minus1,
+        &set.used_by_curr_pic_s1_flag,
+    )?;
     Ok(out)
 }
 
@@ -103,7 +118,13 @@ fn uses_delta(set: &ShortSet, flags: usize) -> bool
 }
 
 /// Adds one candidate of a predicted set, where it is taken.
-fn add_taken(out: &mut Vec<Delta>, side: Side, set: &ShortSet, delta: i32, flags: usize) -> Result<(), AllocError>
+fn add_taken(
+    out: &mut Vec<Delta>,
+    side: Side,
+    set: &ShortSet,
+    delta: i32,
+    flags: usize,
+) -> Result<(), AllocError>
     requires used { flags < length set.now.used_by_curr_pic_flag }
     requires use_delta { flags < length set.now.use_delta_flag }
     ensures { OnOk result (out.new.items ≡ out.old.items ++ taken side set.now (record { delta = delta; flags = flags } ∷ [])) }
@@ -126,7 +147,14 @@ fn moved_by(one: &Delta, d: i32) -> i32
 }
 
 /// Adds candidates from the last to the first: some deltas of the reference set plus d, whose flags begin at `first`.
-fn add_backward(out: &mut Vec<Delta>, side: Side, set: &ShortSet, some: &[Delta], first: usize, d: i32) -> Result<(), AllocError>
+fn add_backward(
+    out: &mut Vec<Delta>,
+    side: Side,
+    set: &ShortSet,
+    some: &[Delta],
+    first: usize,
+    d: i32,
+) -> Result<(), AllocError>
     requires near { All (IsNear (2 ^ 22)) some.now }
     requires not_below { neg_ℤ (pos 32768) ≤ℤ d }
     requires not_above { d ≤ℤ pos 32768 }
@@ -144,7 +172,14 @@ fn add_backward(out: &mut Vec<Delta>, side: Side, set: &ShortSet, some: &[Delta]
 }
 
 /// Adds candidates from the first to the last: some deltas of the reference set plus d, whose flags begin at `first`.
-fn add_forward(out: &mut Vec<Delta>, side: Side, set: &ShortSet, some: &[Delta], first: usize, d: i32) -> Result<(), AllocError>
+fn add_forward(
+    out: &mut Vec<Delta>,
+    side: Side,
+    set: &ShortSet,
+    some: &[Delta],
+    first: usize,
+    d: i32,
+) -> Result<(), AllocError>
     requires near { All (IsNear (2 ^ 22)) some.now }
     requires not_below { neg_ℤ (pos 32768) ≤ℤ d }
     requires not_above { d ≤ℤ pos 32768 }
@@ -168,7 +203,13 @@ fn count_before(some: &[Delta]) -> usize
 
 /// Adds the pictures before the current one of a predicted set: the candidates are those after it in the reference set from
 /// the last to the first, its picture, and those before it from the first to the last.
-fn add_before(out: &mut Vec<Delta>, set: &ShortSet, before: &[Delta], after: &[Delta], d: i32) -> Result<(), AllocError>
+fn add_before(
+    out: &mut Vec<Delta>,
+    set: &ShortSet,
+    before: &[Delta],
+    after: &[Delta],
+    d: i32,
+) -> Result<(), AllocError>
     requires near0 { All (IsNear (2 ^ 22)) before.now }
     requires near1 { All (IsNear (2 ^ 22)) after.now }
     requires not_below { neg_ℤ (pos 32768) ≤ℤ d }
@@ -185,7 +226,13 @@ fn add_before(out: &mut Vec<Delta>, set: &ShortSet, before: &[Delta], after: &[D
 
 /// Adds the pictures after the current one of a predicted set: the candidates are those before it in the reference set from
 /// the last to the first, its picture, and those after it from the first to the last.
-fn add_after(out: &mut Vec<Delta>, set: &ShortSet, before: &[Delta], after: &[Delta], d: i32) -> Result<(), AllocError>
+fn add_after(
+    out: &mut Vec<Delta>,
+    set: &ShortSet,
+    before: &[Delta],
+    after: &[Delta],
+    d: i32,
+) -> Result<(), AllocError>
     requires near0 { All (IsNear (2 ^ 22)) before.now }
     requires near1 { All (IsNear (2 ^ 22)) after.now }
     requires not_below { neg_ℤ (pos 32768) ≤ℤ d }
@@ -202,7 +249,11 @@ fn add_after(out: &mut Vec<Delta>, set: &ShortSet, before: &[Delta], after: &[De
 
 /// The deltas of a set that is predicted from a reference set with these deltas.
 #[tactic(auto, unfolding(crate::specs::Deltas::predicted))]
-fn predicted_deltas(alloc: Global, set: &ShortSet, reference: &[Delta]) -> Result<Vec<Delta>, AllocError>
+fn predicted_deltas(
+    alloc: Global,
+    set: &ShortSet,
+    reference: &[Delta],
+) -> Result<Vec<Delta>, AllocError>
     requires sides { IsSided reference.now }
     requires near { All (IsNear (2 ^ 22)) reference.now }
     requires few { length reference.now ≤ 16 }
@@ -222,7 +273,11 @@ fn predicted_deltas(alloc: Global, set: &ShortSet, reference: &[Delta]) -> Resul
 
 /// The deltas of the reference set of set `args.idx`.
 #[cycle(deltas)]
-pub(crate) fn reference_deltas(alloc: Global, args: &ShortArgs<'_>, delta_idx_minus1: Option<u32>) -> Result<Vec<Delta>, AllocError>
+pub(crate) fn reference_deltas(
+    alloc: Global,
+    args: &ShortArgs<'_>,
+    delta_idx_minus1: Option<u32>,
+) -> Result<Vec<Delta>, AllocError>
     requires args { AreShortArgs args.now.idx args.now.num args.now.earlier.now }
     requires index { or_zero delta_idx_minus1 < args.now.idx }
     ensures { IfOk result (λ v. v.items ≡ reference args.now.idx (deltas_of_each args.now.earlier.now) delta_idx_minus1) }
@@ -239,7 +294,11 @@ pub(crate) fn reference_deltas(alloc: Global, args: &ShortArgs<'_>, delta_idx_mi
 /// The deltas of a set whose fields are valid.
 #[cycle(deltas)]
 #[tactic(auto, unfolding(crate::specs::Deltas::deltas))]
-pub(crate) fn deltas_of(alloc: Global, set: &ShortSet, args: &ShortArgs<'_>) -> Result<Vec<Delta>, AllocError>
+pub(crate) fn deltas_of(
+    alloc: Global,
+    set: &ShortSet,
+    args: &ShortArgs<'_>,
+) -> Result<Vec<Delta>, AllocError>
     requires args { AreShortArgs args.now.idx args.now.num args.now.earlier.now }
     requires valid { Valid (set_fields args.now.idx args.now.num (deltas_of_each args.now.earlier.now)) set.now }
     ensures { IfOk result (λ v. v.items ≡ deltas args.now.idx (deltas_of_each args.now.earlier.now) set.now) }

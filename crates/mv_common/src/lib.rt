@@ -46,4 +46,6 @@ pub use vui_parts::{
 };
 
 #[cfg(test)]
+mod set_tests;
+#[cfg(test)]
 mod tests;

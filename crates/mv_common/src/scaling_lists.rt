@@ -58,10 +58,10 @@ impl Model for ScalingList {
     ghost Value = { ScalingListValue };
 
     ghost view = { λ a. record {
-        scaling_list_pred_mode_flag = a.scaling_list_pred_mode_flag;
-        scaling_list_pred_matrix_id_delta = a.scaling_list_pred_matrix_id_delta;
-        scaling_list_dc_coef_minus8 = a.scaling_list_dc_coef_minus8;
-        scaling_list_delta_coef = a.scaling_list_delta_coef.items
+      scaling_list_pred_mode_flag = a.scaling_list_pred_mode_flag;
+      scaling_list_pred_matrix_id_delta = a.scaling_list_pred_matrix_id_delta;
+      scaling_list_dc_coef_minus8 = a.scaling_list_dc_coef_minus8;
+      scaling_list_delta_coef = a.scaling_list_delta_coef.items;
     } };
 }
 
@@ -132,7 +132,12 @@ fn put_coefficient(out: &mut BitWriter, v: i32, k: usize) -> Result<(), AllocErr
 }
 
 #[tactic(auto, using(mv_syntax::proofs::LoopLaws::item_steps), unfolding(crate::specs::ScalingLists::coefficients))]
-fn coefficients_of(alloc: Global, bits: &mut BitReader, coded: bool, s: u8) -> Result<Vec<i32>, FieldFault>
+fn coefficients_of(
+    alloc: Global,
+    bits: &mut BitReader,
+    coded: bool,
+    s: u8,
+) -> Result<Vec<i32>, FieldFault>
     ensures { Fills (λ v. v.items) means bits.old bits.new result (read (coefficients coded s) bits.old.left) }
 {
     let turns = count_coefficients(coded, s);
@@ -179,12 +184,20 @@ fn put_scaling_list(out: &mut BitWriter, v: &ScalingList, s: u8) -> Result<(), A
     let has_coefficients = v.scaling_list_pred_mode_flag == 1;
     put_u8(out, 1, v.scaling_list_pred_mode_flag)?;
     put_ue_if(out, !has_coefficients, v.scaling_list_pred_matrix_id_delta)?;
-    put_se_if(out, has_coefficients && s > 1, v.scaling_list_dc_coef_minus8)?;
+    put_se_if(
+        out,
+        has_coefficients && s > 1,
+        v.scaling_list_dc_coef_minus8,
+    )?;
     put_coefficients(out, &v.scaling_list_delta_coef, has_coefficients, s)
 }
 
 #[tactic(auto, using(mv_syntax::proofs::LoopLaws::item_steps))]
-fn lists_of_size_of(alloc: Global, bits: &mut BitReader, s: u8) -> Result<ScalingListsOfSize, FieldFault>
+fn lists_of_size_of(
+    alloc: Global,
+    bits: &mut BitReader,
+    s: u8,
+) -> Result<ScalingListsOfSize, FieldFault>
     ensures { Fills (λ v. v) means bits.old bits.new result (read (lists_of_size s) bits.old.left) }
 {
     let turns = count_lists(s);
@@ -249,7 +262,11 @@ impl ScalingLists {
     ///
     /// `NoBits` where the bits end before or in a field or hold no code there; `Memory` where memory runs out. No field
     /// has a limit. After a fault the reader stands where it stood.
-    pub fn read(alloc: Global, bits: &mut BitReader, _args: &ScalingArgs) -> Result<ScalingLists, FieldFault>
+    pub fn read(
+        alloc: Global,
+        bits: &mut BitReader,
+        _args: &ScalingArgs,
+    ) -> Result<ScalingLists, FieldFault>
         ensures { Answers (λ v. v) means scaling_list_data bits.old bits.new result }
     {
         let mut ahead = bits.fork();

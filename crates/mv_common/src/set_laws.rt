@@ -15,8 +15,7 @@ ghost use Rattle.mv_common.specs.ScalingLists.{scaling_list_data};
 pub fn short_set_laws()
     ensures exactly_one { (idx num : ℕ) (earlier : List (List Delta)) (b : List Bool) → ExactlyOne (st_ref_pic_set idx num earlier) b }
     ensures round_trips { (idx num : ℕ) (earlier : List (List Delta)) → RoundTrips (st_ref_pic_set idx num earlier) }
-{
-}
+{}
 
 /// A valid set has at most 16 deltas, those before the current picture first, then those after it, and none is 0. Those of
 /// set idx are from -32768 * (idx + 16) to 32768 * (idx + 16).
@@ -24,12 +23,10 @@ pub fn delta_laws()
     ensures few { (idx num : ℕ) (earlier : List (List Delta)) (s : ShortSetValue) → Valid (st_ref_pic_set idx num earlier) s → length (deltas idx earlier s) ≤ 16 }
     ensures sided { (idx : ℕ) (earlier : List (List Delta)) (s : ShortSetValue) → IsSided (deltas idx earlier s) }
     ensures near { (idx num : ℕ) (sets : List ShortSetValue) (s : ShortSetValue) → AreShortArgs idx num sets → Valid (st_ref_pic_set idx num (deltas_of_each sets)) s → All (IsNear (32768 * (idx + 16))) (deltas idx (deltas_of_each sets) s) }
-{
-}
+{}
 
 /// The same of scaling_list_data (7.3.4) as of st_ref_pic_set.
 pub fn scaling_list_laws()
     ensures exactly_one { (b : List Bool) → ExactlyOne scaling_list_data b }
     ensures round_trips { RoundTrips scaling_list_data }
-{
-}
+{}

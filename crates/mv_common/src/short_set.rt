@@ -40,18 +40,18 @@ impl Model for ShortSet {
     ghost Value = { ShortSetValue };
 
     ghost view = { λ s. record {
-        inter_ref_pic_set_prediction_flag = s.inter_ref_pic_set_prediction_flag;
-        delta_idx_minus1 = s.delta_idx_minus1;
-        delta_rps_sign = s.delta_rps_sign;
-        abs_delta_rps_minus1 = s.abs_delta_rps_minus1;
-        used_by_curr_pic_flag = s.used_by_curr_pic_flag.items;
-        use_delta_flag = s.use_delta_flag.items;
-        num_negative_pics = s.num_negative_pics;
-        num_positive_pics = s.num_positive_pics;
-        delta_poc_s0_minus1 = s.delta_poc_s0_minus1.items;
-        used_by_curr_pic_s0_flag = s.used_by_curr_pic_s0_flag.items;
-        delta_poc_s1_minus1 = s.delta_poc_s1_minus1.items;
-        used_by_curr_pic_s1_flag = s.used_by_curr_pic_s1_flag.items
+      inter_ref_pic_set_prediction_flag = s.inter_ref_pic_set_prediction_flag;
+      delta_idx_minus1 = s.delta_idx_minus1;
+      delta_rps_sign = s.delta_rps_sign;
+      abs_delta_rps_minus1 = s.abs_delta_rps_minus1;
+      used_by_curr_pic_flag = s.used_by_curr_pic_flag.items;
+      use_delta_flag = s.use_delta_flag.items;
+      num_negative_pics = s.num_negative_pics;
+      num_positive_pics = s.num_positive_pics;
+      delta_poc_s0_minus1 = s.delta_poc_s0_minus1.items;
+      used_by_curr_pic_s0_flag = s.used_by_curr_pic_s0_flag.items;
+      delta_poc_s1_minus1 = s.delta_poc_s1_minus1.items;
+      used_by_curr_pic_s1_flag = s.used_by_curr_pic_s1_flag.items;
     } };
 }
 
@@ -76,7 +76,12 @@ fn candidate_flags_of(bits: &mut BitReader, j: usize) -> Result<(u8, Option<u8>)
 }
 
 #[tactic(auto, unfolding(crate::specs::ShortSet::candidate_flags))]
-fn put_candidate_flags(out: &mut BitWriter, used_by_curr_pic_flag: u8, use_delta_flag: Option<u8>, j: usize) -> Result<(), AllocError>
+fn put_candidate_flags(
+    out: &mut BitWriter,
+    used_by_curr_pic_flag: u8,
+    use_delta_flag: Option<u8>,
+    j: usize,
+) -> Result<(), AllocError>
     requires { Valid (candidate_flags j) (used_by_curr_pic_flag, use_delta_flag) }
     ensures { OnOk result (out.new ≡ put (candidate_flags j) (used_by_curr_pic_flag, use_delta_flag) out.old) }
 {
@@ -85,7 +90,11 @@ fn put_candidate_flags(out: &mut BitWriter, used_by_curr_pic_flag: u8, use_delta
 }
 
 #[tactic(auto, using(mv_syntax::proofs::LoopLaws::column_steps))]
-fn all_candidate_flags_of(alloc: Global, bits: &mut BitReader, count: usize) -> Result<(Vec<u8>, Vec<Option<u8>>), FieldFault>
+fn all_candidate_flags_of(
+    alloc: Global,
+    bits: &mut BitReader,
+    count: usize,
+) -> Result<(Vec<u8>, Vec<Option<u8>>), FieldFault>
     ensures { Fills (λ v. (v.0.items, v.1.items)) means bits.old bits.new result (read (columns 0 count candidate_flags) bits.old.left) }
 {
     let mut used_by_curr_pic_flag = Vec::new(alloc);
@@ -99,7 +108,11 @@ fn all_candidate_flags_of(alloc: Global, bits: &mut BitReader, count: usize) -> 
 }
 
 #[tactic(auto, using(mv_syntax::proofs::LoopLaws::put_column_steps))]
-fn put_all_candidate_flags(out: &mut BitWriter, used_by_curr_pic_flag: &[u8], use_delta_flag: &[Option<u8>]) -> Result<(), AllocError>
+fn put_all_candidate_flags(
+    out: &mut BitWriter,
+    used_by_curr_pic_flag: &[u8],
+    use_delta_flag: &[Option<u8>],
+) -> Result<(), AllocError>
     requires { Valid (columns 0 (length used_by_curr_pic_flag.now) candidate_flags) (used_by_curr_pic_flag.now, use_delta_flag.now) }
     ensures { OnOk result (out.new ≡ put (columns 0 (length used_by_curr_pic_flag.now) candidate_flags) (used_by_curr_pic_flag.now, use_delta_flag.now) out.old) }
 {
@@ -119,7 +132,13 @@ fn picture_of(bits: &mut BitReader, side: Side, j: u32) -> Result<(u32, u8), Fie
 }
 
 #[tactic(auto, unfolding(crate::specs::ShortSet::picture))]
-fn put_picture(out: &mut BitWriter, side: Side, delta_poc_minus1: u32, used_by_curr_pic_flag: u8, j: u32) -> Result<(), AllocError>
+fn put_picture(
+    out: &mut BitWriter,
+    side: Side,
+    delta_poc_minus1: u32,
+    used_by_curr_pic_flag: u8,
+    j: u32,
+) -> Result<(), AllocError>
     requires { Valid (picture side j) (delta_poc_minus1, used_by_curr_pic_flag) }
     ensures { OnOk result (out.new ≡ put (picture side j) (delta_poc_minus1, used_by_curr_pic_flag) out.old) }
 {
@@ -128,7 +147,12 @@ fn put_picture(out: &mut BitWriter, side: Side, delta_poc_minus1: u32, used_by_c
 }
 
 #[tactic(auto, using(mv_syntax::proofs::LoopLaws::column_steps))]
-fn pictures_of(alloc: Global, bits: &mut BitReader, side: Side, count: u32) -> Result<(Vec<u32>, Vec<u8>), FieldFault>
+fn pictures_of(
+    alloc: Global,
+    bits: &mut BitReader,
+    side: Side,
+    count: u32,
+) -> Result<(Vec<u32>, Vec<u8>), FieldFault>
     ensures { Fills (λ v. (v.0.items, v.1.items)) means bits.old bits.new result (read (columns 0 count (picture side)) bits.old.left) }
 {
     let mut delta_poc_minus1 = Vec::new(alloc);
@@ -142,18 +166,34 @@ fn pictures_of(alloc: Global, bits: &mut BitReader, side: Side, count: u32) -> R
 }
 
 #[tactic(auto, using(mv_syntax::proofs::LoopLaws::put_column_steps))]
-fn put_pictures(out: &mut BitWriter, side: Side, delta_poc_minus1: &[u32], used_by_curr_pic_flag: &[u8], count: u32) -> Result<(), AllocError>
+fn put_pictures(
+    out: &mut BitWriter,
+    side: Side,
+    delta_poc_minus1: &[u32],
+    used_by_curr_pic_flag: &[u8],
+    count: u32,
+) -> Result<(), AllocError>
     requires { Valid (columns 0 count (picture side)) (delta_poc_minus1.now, used_by_curr_pic_flag.now) }
     ensures { OnOk result (out.new ≡ put (columns 0 count (picture side)) (delta_poc_minus1.now, used_by_curr_pic_flag.now) out.old) }
 {
     for j in 0..count {
-        put_picture(out, side, delta_poc_minus1[j as usize], used_by_curr_pic_flag[j as usize], j)?;
+        put_picture(
+            out,
+            side,
+            delta_poc_minus1[j as usize],
+            used_by_curr_pic_flag[j as usize],
+            j,
+        )?;
     }
     Ok(())
 }
 
 /// num_positive_pics, where it is present: with the negative pictures at most 16.
-fn num_positive_pics_of(bits: &mut BitReader, present: bool, negatives: u32) -> Result<Option<u32>, FieldFault>
+fn num_positive_pics_of(
+    bits: &mut BitReader,
+    present: bool,
+    negatives: u32,
+) -> Result<Option<u32>, FieldFault>
     ensures { Fills (λ v. v) means bits.old bits.new result (read (when present (ue ! 0 ∶ (λ n. over 16 (negatives + n)))) bits.old.left) }
 {
     if !present {
@@ -167,7 +207,12 @@ fn num_positive_pics_of(bits: &mut BitReader, present: bool, negatives: u32) -> 
 }
 
 /// Writes num_positive_pics, where it is present.
-fn put_num_positive_pics(out: &mut BitWriter, present: bool, negatives: u32, field: Option<u32>) -> Result<(), AllocError>
+fn put_num_positive_pics(
+    out: &mut BitWriter,
+    present: bool,
+    negatives: u32,
+    field: Option<u32>,
+) -> Result<(), AllocError>
     requires { Valid (when present (ue ! 0 ∶ (λ n. over 16 (negatives + n)))) field }
     ensures { OnOk result (out.new ≡ put (when present (ue ! 0 ∶ (λ n. over 16 (negatives + n)))) field out.old) }
 {
@@ -186,7 +231,11 @@ fn prediction_flag_of(bits: &mut BitReader, idx: u8) -> Result<Option<u8>, Field
 }
 
 /// delta_idx_minus1 of set `idx`, where it is present.
-fn delta_idx_minus1_of(bits: &mut BitReader, present: bool, idx: u8) -> Result<Option<u32>, FieldFault>
+fn delta_idx_minus1_of(
+    bits: &mut BitReader,
+    present: bool,
+    idx: u8,
+) -> Result<Option<u32>, FieldFault>
     ensures fills { Fills (λ v. v) means bits.old bits.new result (read (when present (ue ! 0 ∶ over (idx - 1))) bits.old.left) }
     ensures within { IfOk result (λ field. or_zero field ≤ idx - 1) }
 {
@@ -194,7 +243,12 @@ fn delta_idx_minus1_of(bits: &mut BitReader, present: bool, idx: u8) -> Result<O
 }
 
 /// How many candidates a set has.
-fn count_candidates(alloc: Global, args: &ShortArgs<'_>, is_predicted: bool, delta_idx_minus1: Option<u32>) -> Result<usize, AllocError>
+fn count_candidates(
+    alloc: Global,
+    args: &ShortArgs<'_>,
+    is_predicted: bool,
+    delta_idx_minus1: Option<u32>,
+) -> Result<usize, AllocError>
     requires args { AreShortArgs args.now.idx args.now.num args.now.earlier.now }
     requires index { is_predicted ≡ true → or_zero delta_idx_minus1 < args.now.idx }
     ensures { IfOk result (λ n. n ≡ num_candidates is_predicted (reference args.now.idx (deltas_of_each args.now.earlier.now) delta_idx_minus1)) }
@@ -207,13 +261,21 @@ fn count_candidates(alloc: Global, args: &ShortArgs<'_>, is_predicted: bool, del
 }
 
 #[tactic(auto, unfolding(crate::specs::ShortSet::set_fields))]
-fn set_fields_of(alloc: Global, bits: &mut BitReader, args: &ShortArgs<'_>) -> Result<ShortSet, FieldFault>
+fn set_fields_of(
+    alloc: Global,
+    bits: &mut BitReader,
+    args: &ShortArgs<'_>,
+) -> Result<ShortSet, FieldFault>
     requires { AreShortArgs args.now.idx args.now.num args.now.earlier.now }
     ensures { Fills (λ v. v) means bits.old bits.new result (read (set_fields args.now.idx args.now.num (deltas_of_each args.now.earlier.now)) bits.old.left) }
 {
     let inter_ref_pic_set_prediction_flag = prediction_flag_of(bits, args.idx)?;
     let is_predicted = coded_set(inter_ref_pic_set_prediction_flag);
-    let delta_idx_minus1 = delta_idx_minus1_of(bits, is_predicted && args.idx == args.num, args.idx)?;
+    let delta_idx_minus1 = delta_idx_minus1_of(
+        bits,
+        is_predicted && args.idx == args.num,
+        args.idx,
+    )?;
     let delta_rps_sign = u8_if(bits, is_predicted, 1)?;
     let abs_delta_rps_minus1 = ue_within_if(bits, is_predicted, 32767)?;
     let candidates = count_candidates(alloc, args, is_predicted, delta_idx_minus1)?;
@@ -239,7 +301,11 @@ fn set_fields_of(alloc: Global, bits: &mut BitReader, args: &ShortArgs<'_>) -> R
 }
 
 #[tactic(auto, unfolding(crate::specs::ShortSet::st_ref_pic_set))]
-fn short_set_of(alloc: Global, bits: &mut BitReader, args: &ShortArgs<'_>) -> Result<ShortSet, FieldFault>
+fn short_set_of(
+    alloc: Global,
+    bits: &mut BitReader,
+    args: &ShortArgs<'_>,
+) -> Result<ShortSet, FieldFault>
     requires { AreShortArgs args.now.idx args.now.num args.now.earlier.now }
     ensures { Fills (λ v. v) means bits.old bits.new result (read (st_ref_pic_set args.now.idx args.now.num (deltas_of_each args.now.earlier.now)) bits.old.left) }
 {
@@ -260,7 +326,11 @@ fn put_flags_of(out: &mut BitWriter, set: &ShortSet, args: &ShortArgs<'_>) -> Re
 }
 
 #[tactic(auto, unfolding(crate::specs::ShortSet::set_fields))]
-fn put_set_fields(out: &mut BitWriter, set: &ShortSet, args: &ShortArgs<'_>) -> Result<(), AllocError>
+fn put_set_fields(
+    out: &mut BitWriter,
+    set: &ShortSet,
+    args: &ShortArgs<'_>,
+) -> Result<(), AllocError>
     requires { Valid (set_fields args.now.idx args.now.num (deltas_of_each args.now.earlier.now)) set.now }
     ensures { OnOk result (out.new ≡ put (set_fields args.now.idx args.now.num (deltas_of_each args.now.earlier.now)) set.now out.old) }
 {
@@ -269,18 +339,39 @@ fn put_set_fields(out: &mut BitWriter, set: &ShortSet, args: &ShortArgs<'_>) -> 
     let negatives = or_zero(set.num_negative_pics);
     let positives = or_zero(set.num_positive_pics);
     put_u8_if(out, args.idx > 0, 1, set.inter_ref_pic_set_prediction_flag)?;
-    put_ue_within_if(out, is_predicted && args.idx == args.num, set.delta_idx_minus1, last)?;
+    put_ue_within_if(
+        out,
+        is_predicted && args.idx == args.num,
+        set.delta_idx_minus1,
+        last,
+    )?;
     put_u8_if(out, is_predicted, 1, set.delta_rps_sign)?;
     put_ue_within_if(out, is_predicted, set.abs_delta_rps_minus1, 32767)?;
     put_flags_of(out, set, args)?;
     put_ue_within_if(out, !is_predicted, set.num_negative_pics, 16)?;
     put_num_positive_pics(out, !is_predicted, negatives, set.num_positive_pics)?;
-    put_pictures(out, Side::Before, &set.delta_poc_s0_minus1, &set.used_by_curr_pic_s0_flag, negatives)?;
-    put_pictures(out, Side::After, &set.delta_poc_s1_minus1, &set.used_by_curr_pic_s1_flag, positives)
+    put_pictures(
+        out,
+        Side::Before,
+        &set.delta_poc_s0_minus1,
+        &set.used_by_curr_pic_s0_flag,
+        negatives,
+    )?;
+    put_pictures(
+        out,
+        Side::After,
+        &set.delta_poc_s1_minus1,
+        &set.used_by_curr_pic_s1_flag,
+        positives,
+    )
 }
 
 #[tactic(auto, unfolding(crate::specs::ShortSet::st_ref_pic_set))]
-fn put_short_set(out: &mut BitWriter, set: &ShortSet, args: &ShortArgs<'_>) -> Result<(), AllocError>
+fn put_short_set(
+    out: &mut BitWriter,
+    set: &ShortSet,
+    args: &ShortArgs<'_>,
+) -> Result<(), AllocError>
     requires { Valid (st_ref_pic_set args.now.idx args.now.num (deltas_of_each args.now.earlier.now)) set.now }
     ensures { OnOk result (out.new ≡ put (st_ref_pic_set args.now.idx args.now.num (deltas_of_each args.now.earlier.now)) set.now out.old) }
 {
@@ -294,7 +385,11 @@ impl ShortSet {
     /// `Limit` where all before a field could be read and it is past its limit: delta_idx_minus1 over `idx` - 1, a
     /// difference over 32768, over 16 pictures, and behind the last field over 16 deltas; `Memory` where memory runs out.
     /// After a fault the reader stands where it stood.
-    pub fn read(alloc: Global, bits: &mut BitReader, args: &ShortArgs<'_>) -> Result<ShortSet, FieldFault>
+    pub fn read(
+        alloc: Global,
+        bits: &mut BitReader,
+        args: &ShortArgs<'_>,
+    ) -> Result<ShortSet, FieldFault>
         requires { AreShortArgs args.now.idx args.now.num args.now.earlier.now }
         ensures { Answers (λ v. v) means (st_ref_pic_set args.now.idx args.now.num (deltas_of_each args.now.earlier.now)) bits.old bits.new result }
     {

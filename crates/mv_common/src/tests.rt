@@ -6,7 +6,7 @@ use std::alloc::{AllocError, Global};
 use std::test::Fail;
 
 // The bits that a text of zeros and ones has, and trailing bits.
-fn bytes_of(alloc: Global, text: &str) -> Result<Vec<u8>, AllocError> {
+pub(crate) fn bytes_of(alloc: Global, text: &str) -> Result<Vec<u8>, AllocError> {
     let mut out = BitWriter::new(alloc);
     for c in text.as_bytes() {
         match c {
@@ -19,7 +19,7 @@ fn bytes_of(alloc: Global, text: &str) -> Result<Vec<u8>, AllocError> {
 }
 
 // The bytes of a writer, behind its bits trailing bits.
-fn whole(mut out: BitWriter) -> Result<Vec<u8>, AllocError> {
+pub(crate) fn whole(mut out: BitWriter) -> Result<Vec<u8>, AllocError> {
     out.trailing()?;
     Ok(out.into_bytes())
 }

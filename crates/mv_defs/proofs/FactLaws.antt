@@ -4,11 +4,12 @@ use Rattle.std.specs.List.{filter_map, range_with_len, cons_option}
 use Rattle.std.specs.Option.{option_or}
 use Rattle.std.proofs.lemmas.List.Elements.{filter-append, filter_map-append}
 use Rattle.std.proofs.lemmas.List.{map-append}
+use Rattle.mv_io.specs.declared.rule.Rule.{Rule}
 use Rattle.mv_io.specs.declared.refusal.Refusal.{Refusal}
 use Rattle.mv_defs.specs.Units.{NalUnit}
 use Rattle.mv_defs.specs.Facts.{Fact, fact, facts, facts_behind}
 use Rattle.mv_defs.specs.Framing.{frame, long_code}
-use Rattle.mv_defs.specs.Verdict.{first, refusal_of, verdict}
+use Rattle.mv_defs.specs.Verdict.{first, refusal_by, verdict_by}
 use Rattle.mv_defs.specs.Extract.{kept, extract}
 
 -- facts of units in two parts: the second stands behind the first
@@ -52,24 +53,24 @@ first-append [] ys = refl
 first-append (x ∷ xs) ys = refl
 
 -- a unit more is refused only where no unit before it was
-pub verdict-push : (us : List NalUnit) (u : NalUnit) → verdict (us ++ u ∷ []) ≡ option_or (verdict us) (refusal_of (fact us u))
-verdict-push us u =
-    ap (λ fs. first (filter_map refusal_of fs)) (facts-push us u)
-    ∙ ap first (filter_map-append refusal_of (facts us) (fact us u ∷ []))
-    ∙ first-append (filter_map refusal_of (facts us)) (filter_map refusal_of (fact us u ∷ []))
-    ∙ ap (option_or (verdict us)) (alone (refusal_of (fact us u)))
+pub verdict-push : (rs : List Rule) (us : List NalUnit) (u : NalUnit) → verdict_by rs (us ++ u ∷ []) ≡ option_or (verdict_by rs us) (refusal_by rs (fact us u))
+verdict-push rs us u =
+    ap (λ fs. first (filter_map (refusal_by rs) fs)) (facts-push us u)
+    ∙ ap first (filter_map-append (refusal_by rs) (facts us) (fact us u ∷ []))
+    ∙ first-append (filter_map (refusal_by rs) (facts us)) (filter_map (refusal_by rs) (fact us u ∷ []))
+    ∙ ap (option_or (verdict_by rs us)) (alone (refusal_by rs (fact us u)))
   where
     alone : (r : Option Refusal) → first (cons_option r []) ≡ r
     alone None = refl
     alone (Some r) = refl
 
 -- a refusal stays, whatever follows
-pub verdict-stays : (us vs : List NalUnit) (r : Refusal) → verdict us ≡ Some r → verdict (us ++ vs) ≡ Some r
-verdict-stays us vs r h =
-    ap (λ fs. first (filter_map refusal_of fs)) (facts-append us vs)
-    ∙ ap first (filter_map-append refusal_of (facts us) (facts_behind us vs))
-    ∙ first-append (filter_map refusal_of (facts us)) (filter_map refusal_of (facts_behind us vs))
-    ∙ ap (λ v. option_or v (first (filter_map refusal_of (facts_behind us vs)))) h
+pub verdict-stays : (rs : List Rule) (us vs : List NalUnit) (r : Refusal) → verdict_by rs us ≡ Some r → verdict_by rs (us ++ vs) ≡ Some r
+verdict-stays rs us vs r h =
+    ap (λ fs. first (filter_map (refusal_by rs) fs)) (facts-append us vs)
+    ∙ ap first (filter_map-append (refusal_by rs) (facts us) (facts_behind us vs))
+    ∙ first-append (filter_map (refusal_by rs) (facts us)) (filter_map (refusal_by rs) (facts_behind us vs))
+    ∙ ap (λ v. option_or v (first (filter_map (refusal_by rs) (facts_behind us vs)))) h
 
 -- a unit more is in the extract where it is kept
 pub extract-push : (us : List NalUnit) (u : NalUnit) → extract (us ++ u ∷ []) ≡ extract us ++ (if kept (fact us u) then u.bytes ∷ [] else [])

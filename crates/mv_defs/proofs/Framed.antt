@@ -8,7 +8,7 @@ use Rattle.mv_defs.proofs.Pieces.{is_code-zero, pieces-code, pieces-clean}
 use Rattle.mv_defs.proofs.Trimmed.{trimmed-zero, trimmed-whole}
 
 -- a zero byte at the end closes no code
-has_code-zero : (p : List ℕ) → has_code (p ++ 0 ∷ []) ≡ has_code p
+pub has_code-zero : (p : List ℕ) → has_code (p ++ 0 ∷ []) ≡ has_code p
 unfolding has_code
 has_code-zero [] = refl
 has_code-zero (a ∷ []) = refl

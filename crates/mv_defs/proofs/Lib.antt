@@ -1,6 +1,14 @@
+pub mod Escaped
+pub mod Behind
+pub mod Early
 pub mod FactLaws
 pub mod Framed
+pub mod InTurn
 pub mod Longer
 pub mod Parts
 pub mod Pieces
+pub mod Shown
+pub mod Shows
+pub mod Silent
 pub mod Trimmed
+pub mod Unescaped

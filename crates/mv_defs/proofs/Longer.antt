@@ -5,11 +5,11 @@ use Rattle.mv_defs.specs.Units.{is_code, is_zero, lead, pieces, front_of, front,
 use Rattle.mv_defs.proofs.Pieces.{AreClean, closed_of, open_of, closed-open, pieces_split, pieces-append, pieces-byte, pieces-at}
 
 -- how far pieces reach, each with the code behind it
-abbrev span : List (List ℕ) → ℕ → ℕ
+abbrev pub span : List (List ℕ) → ℕ → ℕ
 span [] at = at
 span (p ∷ ps) at = span ps (at + length p + 3)
 
-placed-append : (at : ℕ) (ps qs : List (List ℕ)) → placed at (ps ++ qs) ≡ placed at ps ++ placed (span ps at) qs
+pub placed-append : (at : ℕ) (ps qs : List (List ℕ)) → placed at (ps ++ qs) ≡ placed at ps ++ placed (span ps at) qs
 unfolding placed
 placed-append at [] qs = refl
 placed-append at (p ∷ ps) qs = ap (λ rest. record { place = at; bytes = trimmed p } ∷ rest) (placed-append (at + length p + 3) ps qs)
@@ -70,7 +70,7 @@ front-lead a (p ∷ ps) h = refl
 front-byte : (a b c : ℕ) (s : List ℕ) → is_code a b c ≡ false → front (a ∷ b ∷ c ∷ s) ≡ a ∷ front (b ∷ c ∷ s)
 front-byte a b c s isnt = ap front_of (pieces-byte a b c s isnt) ∙ front-lead a (pieces (b ∷ c ∷ s)) (pieces_split (b ∷ c ∷ s)).0
 
-isnt_code : (a b c : ℕ) → is_zero a ≡ false → is_code a b c ≡ false
+pub isnt_code : (a b c : ℕ) → is_zero a ≡ false → is_code a b c ≡ false
 isnt_code a b c h = ap (λ t. t && (b == 0) && (c == 1)) h
 
 -- a first byte other than zero is a leading one
@@ -99,7 +99,7 @@ last-stays b t i n = go (is_zero b) refl
     go true is h = absurd (let none : cond (not true) (Some i) None ≡ Some n = ap (λ z. cond (not z) (Some i) None) (sym is) ∙ h in cc)
     go false is h = leading-first i b t is ∙ sym (leading-first i b [] is) ∙ h
 
-isnt_second : (a b c : ℕ) → is_zero b ≡ false → is_code a b c ≡ false
+pub isnt_second : (a b c : ℕ) → is_zero b ≡ false → is_code a b c ≡ false
 isnt_second a b c h = go (a == 0)
   where
     go : (x : Bool) → (x && is_zero b && (c == 1)) ≡ false

@@ -1,4 +1,5 @@
 pub mod Escapes
+pub mod Event
 pub mod Extract
 pub mod Facts
 pub mod Framing

@@ -1,5 +1,5 @@
 -- The rules of refusal (this project's profile): one definition a rule, and the list of those that are tried.
-use Rattle.std.specs.Prelude.{Result, Ok, Err, if◌then◌else◌, ℕ, Bool, false, ◌==◌, ◌&&◌, ◌||◌, nat_lt, nat_le, List, [], ◌∷◌, length, take}
+use Rattle.std.specs.Prelude.{Result, Ok, Err, if◌then◌else◌, ℕ, Bool, false, ◌==◌, ◌&&◌, ◌||◌, nat_lt, nat_le, List, [], ◌∷◌, ◌++◌, length, take}
 use Rattle.mv_io.specs.declared.rule.Rule.{Rule}
 use Rattle.mv_defs.specs.Facts.{Fact}
 use Rattle.mv_defs.specs.declared.head.UnitHead.{UnitHead}
@@ -53,9 +53,13 @@ breaks Rule.Long f = long_unit f.unit.bytes
 breaks Rule.Head f = bad_head f.unit.bytes
 breaks rule f = false
 
+-- the rules on the bytes of a unit, whatever they stand for
+abbrev pub unit_rules : List Rule
+unit_rules = Rule.Short ∷ Rule.Emulation ∷ Rule.Long ∷ []
+
 -- the rules that are tried on each unit, in rising order of their numbers
 abbrev pub rules : List Rule
-rules = Rule.Short ∷ Rule.Head ∷ []
+rules = unit_rules ++ Rule.Head ∷ []
 
 -- the head of a unit, or the least of the rules Short and Head that holds for it
 abbrev pub checked_head : List ℕ → Result UnitHead Rule

@@ -8,18 +8,27 @@ use Rattle.mv_defs.specs.Units.{NalUnit, units, leading}
 use Rattle.mv_defs.specs.Facts.{Fact, facts}
 use Rattle.mv_defs.specs.Rules.{rules, breaks}
 
--- the refusal of a unit: by the least rule that holds for it, if one does, with its number and place
+-- the refusal of a unit by the first of some rules that holds for it, if one does, with its number and place
+abbrev pub refusal_by : List Rule → Fact → Option Refusal
+refusal_by rs f = option_map (λ r. record { unit = f.number; byte = f.unit.place; rule = r }) (find (λ r. breaks r f) rs)
+
+-- the refusal of a unit by the least rule that holds for it
 abbrev pub refusal_of : Fact → Option Refusal
-refusal_of f = option_map (λ r. record { unit = f.number; byte = f.unit.place; rule = r }) (find (λ r. breaks r f) rules)
+refusal_of f = refusal_by rules f
 
 -- the first of a list
 abbrev pub first : {A : Type 0} → List A → Option A
 first [] = None
 first (x ∷ xs) = Some x
 
--- the verdict on units: the refusal of the first unit that is refused; none where the units are accepted
+-- the verdict on units by some rules: the refusal of the first unit that is refused; none where the units
+-- are accepted
+abbrev pub verdict_by : List Rule → List NalUnit → Option Refusal
+verdict_by rs us = first (filter_map (refusal_by rs) (facts us))
+
+-- the verdict on units
 abbrev pub verdict : List NalUnit → Option Refusal
-verdict us = first (filter_map refusal_of (facts us))
+verdict us = verdict_by rules us
 
 -- the refusal of the byte at a place before the first start code
 abbrev pub refused_leading : ℕ → Refusal

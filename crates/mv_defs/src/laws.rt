@@ -1,15 +1,18 @@
 //! Laws of the definitions. Each function has an empty body, and its contract is the law.
 #![tactic(auto)]
 
-ghost use Rattle.std.specs.Prelude.{◌≡◌, ◌++◌, ◌∷◌, [], ℕ, List, None, Some, All, map, length, if◌then◌else◌};
+ghost use Rattle.std.specs.Prelude.{◌≡◌, ◌≢◌, ◌++◌, ◌∷◌, [], ℕ, List, Bool, true, false, None, Some, All, map, length, take, if◌then◌else◌};
 ghost use Rattle.std.specs.List.{range_with_len};
 ghost use Rattle.std.specs.Option.{option_or};
 ghost use Rattle.mv_io.specs.declared.refusal.Refusal.{Refusal};
+ghost use Rattle.mv_io.specs.declared.rule.Rule.{Rule};
+ghost use Rattle.mv_defs.specs.Event.{Event, Accepted, Refused, Shows, StartsWith, event, refusal_shown, shown, whole_units};
 ghost use Rattle.mv_defs.specs.Extract.{extract, kept};
 ghost use Rattle.mv_defs.specs.Facts.{Fact, fact, facts};
 ghost use Rattle.mv_defs.specs.Framing.{IsFramable, frame};
 ghost use Rattle.mv_defs.specs.Units.{IsSplit, NalUnit, leading, pieces, units};
-ghost use Rattle.mv_defs.specs.Verdict.{refusal_of, verdict};
+ghost use Rattle.mv_defs.specs.Rules.{rules, unit_rules};
+ghost use Rattle.mv_defs.specs.Verdict.{refusal_of, verdict, verdict_of};
 
 /// The pieces of a string are its one split at start code prefixes (Annex B).
 pub fn pieces_are_the_one_split()
@@ -47,4 +50,35 @@ pub fn one_unit_more()
     ensures extract { (us : List NalUnit) (u : NalUnit) →
         extract (us ++ u ∷ []) ≡ extract us ++ (if kept (fact us u) then u.bytes ∷ [] else []) }
     ensures stays { (us vs : List NalUnit) (r : Refusal) → verdict us ≡ Some r → verdict (us ++ vs) ≡ Some r }
+{}
+
+/// What the bytes taken show of every byte string that begins with them (this project's profile): exactly
+/// the refusal of the first leading byte, else of a unit that was taken whole, else of the last unit by
+/// Emulation or Long. Where they show no refusal they show no event at all, since the string may end there,
+/// or go on with `00 00 02`.
+pub fn bytes_taken_show()
+    ensures shows { (t : List ℕ) (r : Refusal) → shown t ≡ Some r → Shows t (Refused r) }
+    ensures only { (t : List ℕ) (r : Refusal) → Shows t (Refused r) → shown t ≡ Some r }
+    ensures nothing { (t : List ℕ) (e : Event) → shown t ≡ None → ¬ Shows t e }
+    ensures two { (t : List ℕ) → shown t ≡ None → event t ≢ event (t ++ 0 ∷ 0 ∷ 2 ∷ []) }
+    ensures ended { (s : List ℕ) → refusal_shown rules true s ≡ verdict_of s }
+{}
+
+/// What more bytes change of the units taken whole and of the refusal that is shown, whichever rules follow
+/// those on a unit's bytes (this project's profile).
+pub fn more_bytes_show_more()
+    ensures stays { (rs : List Rule) (t s : List ℕ) (r : Refusal) → refusal_shown (unit_rules ++ rs) false t ≡ Some r → refusal_shown (unit_rules ++ rs) false (t ++ s) ≡ Some r }
+    ensures whole { (t s : List ℕ) → StartsWith (whole_units false (t ++ s)) (whole_units false t) }
+    ensures all { (t : List ℕ) → StartsWith (units t) (whole_units false t) }
+{}
+
+/// How a refusal by the rules on a unit's bytes alone is one by all rules (this project's profile): where the
+/// units before it are accepted, and where it is the only one that could be.
+pub fn unit_rules_come_first()
+    ensures refused { (ended : Bool) (t : List ℕ) (r : Refusal) → refusal_shown unit_rules ended t ≡ Some r →
+        verdict (take r.unit (units t)) ≡ None → refusal_shown rules ended t ≡ Some r }
+    ensures accepted { (ended : Bool) (t : List ℕ) → refusal_shown unit_rules ended t ≡ None →
+        verdict (whole_units ended t) ≡ None → refusal_shown rules ended t ≡ None }
+    ensures whole { (ended : Bool) (t : List ℕ) (r : Refusal) → leading t ≡ None → verdict (whole_units ended t) ≡ Some r →
+        refusal_shown rules ended t ≡ Some r }
 {}

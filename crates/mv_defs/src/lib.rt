@@ -2,6 +2,7 @@
 //! laws about them. Programs of other crates meet these definitions by their contracts.
 #![tactic(auto)]
 
+pub mod escape_laws;
 pub mod head;
 pub mod laws;
 

@@ -1,3 +1,7 @@
+pub mod Counts
+pub mod Endings
+pub mod Fed
+pub mod Handed
+pub mod Settled
 pub mod Taking
-pub mod Tried
-pub mod Whole
+pub mod UnitSteps

@@ -1,7 +1,7 @@
 -- The ends of a call as its contract sees them, at the entry and at the exit.
-use Rattle.std.specs.Prelude.{ℕ, ◌≡◌, Bool, true, Option, List, [], IfSome, IsSomeAnd}
+use Rattle.std.specs.Prelude.{ℕ, ◌≡◌, Bool, true, false, Option, List, [], IfSome, IsSomeAnd}
 use Rattle.mv_io.specs.Faults.{Rose}
-use Rattle.mv_io.specs.Source.{Told, Takes}
+use Rattle.mv_io.specs.Source.{Told, Takes, SameEnd}
 
 -- a source over a call: what it told of its bytes, and its count of faults
 pub record Input : Type 0 where
@@ -41,6 +41,7 @@ AtEnd old new = IfSome old (λ was. IsSomeAnd new (λ is. (is.left ≡ []) × (i
 pub record Took (input : Input) (taken : List ℕ) (ended : Bool) : Type 0 where
   pub takes : Takes input.old input.new taken
   pub at_end : ended ≡ true → AtEnd input.old input.new
+  pub goes_on : ended ≡ false → SameEnd input.old input.new
 
 -- neither end was used: nothing was read, nothing was written
 pub record Untouched (input : Input) (output : Output) : Type 0 where

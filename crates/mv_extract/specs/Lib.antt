@@ -1,5 +1,5 @@
 pub mod Answers
 pub mod Call
-pub mod Keeping
+pub mod Handling
 pub mod Reading
 pub mod Text

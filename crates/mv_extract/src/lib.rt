@@ -5,6 +5,7 @@
 mod error;
 mod heads;
 mod reading;
+mod units;
 
 pub use error::ExtractError;
 pub use heads::extract_heads;

@@ -1,77 +1,47 @@
-//! The whole input read into memory, within a limit.
+//! One read, and what its piece brings.
 #![tactic(auto)]
 
-ghost use Rattle.std.specs.Prelude.{◌≡◌, ◌<◌, ◌≤◌, length};
+ghost use Rattle.std.specs.Prelude.{◌≡◌, ◌<◌, ◌≤◌, ◌+◌, ◌^◌, ℕ, List, Option, Err, length, IfOk};
+ghost use Rattle.mv_io.specs.Source.{ReadsAtMost};
 ghost use Rattle.mv_extract.specs.Call.{input_of};
-ghost use Rattle.mv_extract.specs.Reading.{EndsHere, Gains, Reads};
+ghost use Rattle.mv_extract.specs.Handling.{CanFeed, Idle, SinkCause};
+ghost use Rattle.mv_extract.specs.Reading.{EndsHere, Reads};
 
 use crate::error::ExtractError;
-use mv_io::Source;
-use std::alloc::Global;
+use crate::units::handle_piece;
+use mv_bytestream::Scanner;
+use mv_io::{Sink, Source};
 
-/// The most bytes that one read asks for.
-const PIECE: usize = 65536;
-
-/// The bytes of the whole input, where there are at most `limit` of them.
-///
-/// # Errors
-///
-/// `Read` where a read failed, `TooLong` where there is a byte more, and `Memory` where the allocator
-/// refused memory.
-pub fn read_within<S: Source>(
-    alloc: Global,
-    source: &mut S,
-    limit: u64,
-) -> Result<Vec<u8>, ExtractError>
-    ensures reads { Reads limit
-        (input_of (S.told source.old) (S.told source.new) (S.faults source.old) (S.faults source.new))
-        result }
-    ensures source_count { S.faults source.old ≤ S.faults source.new }
-{
-    let mut piece = match vec![in alloc; 0; PIECE] {
-        Ok(piece) => piece,
-        Err(_) => return Err(ExtractError::Memory),
-    };
-    let piece = piece.as_mut_slice();
-    let mut bytes = Vec::new(alloc);
-    let mut room = limit;
-    while room > 0 {
-        let most = room.min(PIECE as u64) as usize;
-        match read_piece(source, &mut piece[..most], &mut bytes) {
-            Ok(0) => return Ok(bytes),
-            Ok(count) => room -= count as u64,
-            Err(error) => return Err(error),
-        }
-    }
-    match no_more(source) {
-        Ok(()) => Ok(bytes),
-        Err(error) => Err(error),
-    }
-}
-
-// One read, whose bytes are appended. Says how many they are.
-fn read_piece<S: Source>(
+// One read into `piece`, whose bytes are then handled. Says how many they are: none is the end.
+pub fn read_piece<S: Source, K: Sink>(
     source: &mut S,
     piece: &mut [u8],
-    bytes: &mut Vec<u8>,
+    scanner: &mut Scanner,
+    number: &mut u64,
+    sink: &mut K,
 ) -> Result<usize, ExtractError>
-    requires { 0 < length piece.old }
-    ensures gains { Gains (length piece.old)
+    requires some { 0 < length piece.old }
+    requires countable { CanFeed (K.taken sink.old) scanner.old number.old (length piece.old) }
+    ensures reads { (s : List ℕ) (start : Option (List ℕ)) → Idle start (K.taken sink.old) scanner.old number.old s →
+        Reads (length piece.old)
         (input_of (S.told source.old) (S.told source.new) (S.faults source.old) (S.faults source.new))
-        bytes.old.items bytes.new.items result }
+        start (K.taken sink.new) scanner.new number.new s result }
+    ensures bound { ReadsAtMost result piece.old }
     ensures source_count { S.faults source.old ≤ S.faults source.new }
+    ensures sink_cause { SinkCause (K.faults sink.old) (K.faults sink.new) result }
 {
     match source.read(piece) {
-        Ok(count) => match bytes.extend_from_slice(&piece[..count]) {
+        Ok(0) => Ok(0),
+        Ok(count) => match handle_piece(&piece[..count], scanner, number, sink) {
             Ok(()) => Ok(count),
-            Err(_) => Err(ExtractError::Memory),
+            Err(error) => Err(error),
         },
         Err(_) => Err(ExtractError::Read),
     }
 }
 
 // Asks for one byte more, and is told that there is none.
-fn no_more<S: Source>(source: &mut S) -> Result<(), ExtractError>
+pub fn no_more<S: Source>(source: &mut S) -> Result<(), ExtractError>
     ensures ends { EndsHere
         (input_of (S.told source.old) (S.told source.new) (S.faults source.old) (S.faults source.new))
         result }

@@ -13,4 +13,5 @@ bit-preserved c =
     let step = tail_next c.bit.bits.total c.bit.tail.items c.bit.bits.left c.in-Ok.bit c.u.new.self.left (sym c.more_data.ensures ∙ c.bit-test.true) c.in-Ok.ensures.takes.0 c.bit.invariant.room in
     record {
       reads = rw c.in-Ok.ensures.takes.1 (c.bit.invariant.reads ∙ step ∙ rw c.in-Ok-push.ensures.items refl);
-      room = rw c.in-Ok.ensures.takes.1 (omega arith) }
+      room = rw c.in-Ok.ensures.takes.1 (omega arith);
+    }

@@ -6,7 +6,9 @@ use Rattle.mv_common.proofs.scaling_lists.coefficients_of.Goals as goal
 
 pub loop-k-init : goal.loop-k-init
 unfolding coefficients
-loop-k-init c =
-    (rw c.new-list.ensures.items
+loop-k-init c = (
+  rw c.new-list.ensures.items
       (items_begin coefficient 0 (if c.args.coded then num_coefficients c.args.s else 0) c.count_coefficients-turns.result c.args.bits.now.left
-        (omega (arith, c.count_coefficients-turns.ensures))), refl)
+      (omega (arith, c.count_coefficients-turns.ensures))),
+  refl,
+)

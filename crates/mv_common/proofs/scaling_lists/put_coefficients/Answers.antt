@@ -19,4 +19,4 @@ unfolding coefficient
 loop-k-preserved c =
     let value : to_z w32 (of_z w32 (get_or c.args.list.now c.loop-k.k (pos 0))) ≡ get_or c.args.list.now c.loop-k.k (pos 0) = search rules in
     put_items_step coefficient 0 (if c.args.coded then num_coefficients c.args.s else 0) c.args.list.now c.loop-k.k _ _ _ _ _
-      c.loop-k-test.true value c.loop-k.invariant c.in_ok-put_coefficient.ensures
+    c.loop-k-test.true value c.loop-k.invariant c.in_ok-put_coefficient.ensures

@@ -11,15 +11,15 @@ use Rattle.mv_common.proofs.short_set.put_flags_of.Goals as goal
 pub put_all_candidate_flags-requires : goal.put_all_candidate_flags-requires
 put_all_candidate_flags-requires c =
     let here = subst (λ (s : ShortSetValue). Valid (columns 0 (length s.used_by_curr_pic_flag) candidate_flags) (s.used_by_curr_pic_flag, s.use_delta_flag)) (sym c.set.view_is)
-      (flags_valid c.args.args.now.idx c.args.args.now.num (deltas_of_each c.args.args.now.earlier.now) c.args.set.now c.requires) in
+    (flags_valid c.args.args.now.idx c.args.args.now.num (deltas_of_each c.args.args.now.earlier.now) c.args.set.now c.requires) in
     rw (c.deref.ensures.value, c.deref-2.ensures.value) here
 
 pub returns : goal.returns
 returns c =
     let same : (c.deref.result.now, c.deref-2.result.now) ≡ (c.args.set.now.used_by_curr_pic_flag, c.args.set.now.use_delta_flag)
-      = ap₂ (λ (x : List ℕ) (y : List (Option ℕ)). (x, y))
-        (c.deref.ensures.value ∙ ap (λ (s : ShortSetValue). s.used_by_curr_pic_flag) c.set.view_is)
-        (c.deref-2.ensures.value ∙ ap (λ (s : ShortSetValue). s.use_delta_flag) c.set.view_is) in
+    = ap₂ (λ (x : List ℕ) (y : List (Option ℕ)). (x, y))
+    (c.deref.ensures.value ∙ ap (λ (s : ShortSetValue). s.used_by_curr_pic_flag) c.set.view_is)
+    (c.deref-2.ensures.value ∙ ap (λ (s : ShortSetValue). s.use_delta_flag) c.set.view_is) in
     on_ok_weaker c.put_all_candidate_flags.result
-      (λ e. e ∙ ap (λ (v : List ℕ × List (Option ℕ)). put (columns 0 (length c.deref.result.now) candidate_flags) v c.args.out.now) same ∙ flags_put _ _ _ _)
-      c.put_all_candidate_flags.ensures
+    (λ e. e ∙ ap (λ (v : List ℕ × List (Option ℕ)). put (columns 0 (length c.deref.result.now) candidate_flags) v c.args.out.now) same ∙ flags_put _ _ _ _)
+    c.put_all_candidate_flags.ensures

@@ -8,5 +8,5 @@ use Rattle.mv_common.proofs.scaling_lists.ScalingLists.write.Goals as goal
 pub returns-clause-ok : goal.returns-clause-ok
 returns-clause-ok c =
     on_ok_weaker c.append.result
-      (appended scaling_list_data c.args.self.now _ _ _ (c.in_ok-put_scaling_lists.ensures ∙ ap (put scaling_list_data c.args.self.now) c.empty-own.ensures))
-      c.append.ensures.ok
+    (appended scaling_list_data c.args.self.now _ _ _ (c.in_ok-put_scaling_lists.ensures ∙ ap (put scaling_list_data c.args.self.now) c.empty-own.ensures))
+    c.append.ensures.ok

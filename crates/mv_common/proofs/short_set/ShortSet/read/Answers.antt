@@ -7,9 +7,9 @@ use Rattle.mv_common.proofs.short_set.ShortSet.read.Goals as goal
 pub returns-in-Ok : goal.returns-in-Ok
 returns-in-Ok c =
     answers_ok (λ v. v) means (st_ref_pic_set c.args.args.now.idx c.args.args.now.num (deltas_of_each c.args.args.now.earlier.now)) _ _ _ _
-      c.fork-ahead.ensures c.in-Ok.ensures
+    c.fork-ahead.ensures c.in-Ok.ensures
 
 pub returns-in-Err : goal.returns-in-Err
 returns-in-Err c =
     answers_err (λ v. v) means (st_ref_pic_set c.args.args.now.idx c.args.args.now.num (deltas_of_each c.args.args.now.earlier.now)) _ _ _
-      c.fork-ahead.ensures c.in-Err.ensures
+    c.fork-ahead.ensures c.in-Err.ensures
