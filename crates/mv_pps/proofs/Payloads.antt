@@ -1,13 +1,12 @@
 -- Whole payloads, in the order in which a call reads and writes them.
-use Rattle.std.proofs.Common.{◌≡◌, ℕ, ◌-◌, ◌≤◌, ◌<◌, ◌*◌, ◌++◌, [], Bool, List, length, Option, Some, None, Result, Ok, Err, refl, sym, ap, ap₂, ◌∙◌, subst, arith}
-use Rattle.mv_syntax.specs.Bits.{Fault, short, breaks, byte_bits, trailing_bits}
+use Rattle.std.proofs.Common.{◌≡◌, ◌-◌, ◌≤◌, ◌++◌, [], Bool, List, length, Option, Some, None, Ok, sym, ap, ap₂, ◌∙◌, subst}
+use Rattle.mv_syntax.specs.Bits.{Fault, trailing_bits}
 use Rattle.mv_syntax.specs.Cursor.{Cursor, place}
 use Rattle.mv_syntax.specs.Table.{read, put}
 use Rattle.mv_syntax.specs.Payload.{size_limit, Payload, ReadsPayload, CutPayload, tail_bits, payload_bits, read_end, read_payload}
 use Rattle.mv_syntax.specs.Answers.{FailsAs, Refuses}
-use Rattle.mv_syntax.proofs.BitLaws.{length-byte_bits}
 use Rattle.mv_syntax.proofs.AnswerLaws.{refuses}
-use Rattle.mv_syntax.proofs.PayloadLaws.{payload_over, payload_fault, payload_end, payload_end_fault, payload_put, payload_answered, rest_shorter}
+use Rattle.mv_syntax.proofs.PayloadLaws.{payload_fault, payload_end, payload_end_fault, payload_put, payload_answered}
 
 -- a fault in the fields is one of the payload
 pub fields_fail : {A : Type 0} (p : Payload A) (b : List Bool) (fault : Option Fault)

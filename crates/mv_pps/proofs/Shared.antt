@@ -1,5 +1,5 @@
 -- A shared structure in a header: its limit counts as a rule of the header.
-use Rattle.std.proofs.Common.{◌≡◌, ℕ, Bool, List, Option, Some, None, Result, Ok, Err, refl, ap, ◌∙◌}
+use Rattle.std.proofs.Common.{◌≡◌, ℕ, Bool, List, Option, Some, None, Result, Ok, Err, refl, ap}
 use Rattle.mv_syntax.specs.Bits.{Fault, short, breaks}
 use Rattle.mv_syntax.specs.Table.{Table, Reads, Cut, by_rule, counted_as, read}
 use Rattle.mv_syntax.specs.Payload.{read_end}

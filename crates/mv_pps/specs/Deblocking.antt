@@ -1,5 +1,5 @@
 -- The deblocking filter in a picture parameter set (7.3.2.3.1).
-use Rattle.std.specs.Prelude.{◌≡◌, ℕ, ℤ, Bool, not, ◌&&◌, Option, refl}
+use Rattle.std.specs.Prelude.{Bool, not, ◌&&◌, refl}
 use Rattle.mv_syntax.specs.Table.{Table, ◌>>=◌, u, se, named, when, shaped}
 use Rattle.mv_syntax.specs.Words.{◌▸◌, ◌>>◌, is_set, coded_set}
 use Rattle.mv_pps.specs.declared.deblocking.PpsDeblocking.{PpsDeblocking}

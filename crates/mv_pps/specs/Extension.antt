@@ -1,5 +1,5 @@
 -- The extensions of a picture parameter set (7.3.2.3.1, F.7.3.2.3.4).
-use Rattle.std.specs.Prelude.{◌≡◌, ℕ, Option, refl}
+use Rattle.std.specs.Prelude.{refl}
 use Rattle.mv_syntax.specs.Table.{Table, ◌>>=◌, u, ue, named, when, shaped}
 use Rattle.mv_syntax.specs.Words.{◌▸◌, ◌>>◌, ◌!◌∶◌, over, is_set}
 use Rattle.mv_pps.specs.declared.multilayer.PpsMultilayer.{PpsMultilayer}

@@ -1,7 +1,7 @@
 -- The first fields of a picture parameter set (7.3.2.3.1): its ids, and what slice segment headers hold. An id over 63 or
 -- 15 and a number of references over 15 break the limit rule, 47 (this project's profile).
-use Rattle.std.specs.Prelude.{◌≡◌, ℕ, refl}
-use Rattle.mv_syntax.specs.Table.{Table, ◌>>=◌, u, ue, named, shaped}
+use Rattle.std.specs.Prelude.{refl}
+use Rattle.mv_syntax.specs.Table.{Table, u, ue, named, shaped}
 use Rattle.mv_syntax.specs.Words.{◌▸◌, ◌>>◌, ◌!◌∶◌, over}
 use Rattle.mv_pps.specs.declared.head.PpsHead.{PpsHead}
 

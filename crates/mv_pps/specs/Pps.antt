@@ -1,5 +1,5 @@
 -- pic_parameter_set_rbsp (7.3.2.3.1, F.7.3.2.3.1), part by part: each part is a run of its lines.
-use Rattle.std.specs.Prelude.{◌≡◌, ℕ, Bool, false, List, Option, Some, None, refl}
+use Rattle.std.specs.Prelude.{ℕ, Bool, false, List, Option, Some, None, refl}
 use Rattle.mv_syntax.specs.Table.{Table, ◌>>=◌, u, ue, named, when, by_rule, shaped}
 use Rattle.mv_syntax.specs.Words.{◌▸◌, ◌>>◌, over, is_set}
 use Rattle.mv_syntax.specs.Payload.{Payload}

@@ -1,5 +1,5 @@
 -- The fields of a picture parameter set on residuals and their quantization (7.3.2.3.1).
-use Rattle.std.specs.Prelude.{◌≡◌, ℕ, ℤ, Option, refl}
+use Rattle.std.specs.Prelude.{refl}
 use Rattle.mv_syntax.specs.Table.{Table, ◌>>=◌, u, ue, se, named, when, shaped}
 use Rattle.mv_syntax.specs.Words.{◌▸◌, ◌>>◌, is_set}
 use Rattle.mv_pps.specs.declared.quantization.PpsQuantization.{PpsQuantization}

@@ -1,6 +1,6 @@
 -- The tiles of a picture parameter set (7.3.2.3.1), coded where tiles_enabled_flag is 1. Over 256 columns or rows break the
 -- limit rule, 47 (this project's profile).
-use Rattle.std.specs.Prelude.{◌≡◌, ℕ, not, List, Option, refl}
+use Rattle.std.specs.Prelude.{ℕ, not, List, Option, refl}
 use Rattle.mv_syntax.specs.Table.{Table, ◌>>=◌, u, ue, named, when, shaped}
 use Rattle.mv_syntax.specs.Words.{◌▸◌, ◌>>◌, ◌!◌∶◌, over, is_set}
 use Rattle.mv_syntax.specs.Loops.{items}

@@ -1,6 +1,6 @@
 -- The flags of a picture parameter set that switch coding tools on (7.3.2.3.1).
-use Rattle.std.specs.Prelude.{◌≡◌, ℕ, refl}
-use Rattle.mv_syntax.specs.Table.{Table, ◌>>=◌, u, named, shaped}
+use Rattle.std.specs.Prelude.{refl}
+use Rattle.mv_syntax.specs.Table.{Table, u, named, shaped}
 use Rattle.mv_syntax.specs.Words.{◌▸◌, ◌>>◌}
 use Rattle.mv_pps.specs.declared.tools.PpsTools.{PpsTools}
 

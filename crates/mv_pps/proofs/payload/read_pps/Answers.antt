@@ -1,4 +1,4 @@
-use Rattle.std.proofs.Common.{◌<◌, ◌≤◌, length, arith, refl, inl, subst}
+use Rattle.std.proofs.Common.{arith, refl, inl, subst}
 use Rattle.mv_syntax.specs.Bits.{byte_bits}
 use Rattle.mv_syntax.specs.Payload.{ReadsPayload, CutPayload}
 use Rattle.mv_syntax.specs.Answers.{Refuses}
