@@ -1,4 +1,0 @@
-pub mod Counted
-pub mod Subs
-pub mod Sets
-pub mod Whole
