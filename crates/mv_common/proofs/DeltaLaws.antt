@@ -1,13 +1,13 @@
 -- The deltas of sets among others: which sides they stand on, how far, and how many they are.
-use Rattle.std.proofs.Common.{◌≡◌, ℕ, zero, suc, ◌+◌, ◌-◌, ◌*◌, ◌<◌, ◌≤◌, Bool, true, false, ◌&&◌, cond, List, [], ◌∷◌, ◌++◌, length, get_or, take, reverse, map, ℤ, pos, negsuc, neg_ℤ, ◌+ℤ◌, ◌≤ℤ◌, refl, sym, ap, ap₂, subst, ◌∙◌, append_assoc, append-nil, arith, add-one, Option, Some, None}
+use Rattle.std.proofs.Common.{◌≡◌, ℕ, zero, suc, ◌+◌, ◌*◌, ◌<◌, ◌≤◌, Bool, true, false, ◌&&◌, cond, List, [], ◌∷◌, ◌++◌, length, get_or, take, reverse, ℤ, pos, negsuc, neg_ℤ, ◌+ℤ◌, ◌≤ℤ◌, refl, ap, ap₂, ◌∙◌, append_assoc, append-nil, arith, add-one}
 use Rattle.std.specs.List.{filter, All}
 use Rattle.std.proofs.lemmas.List.Elements.{filter-append, All-nil, All-cons, All-head, All-tail, All-append, All-filter, All-map, All-weaker}
 use Rattle.std.proofs.lemmas.List.{reverse-append}
 use Rattle.std.proofs.lemmas.Int.{ints}
 use Rattle.std.proofs.lemmas.Bool.{le-ltb, lt-ltb, ltb-true}
-use Rattle.std.specs.Prelude.{if◌then◌else◌, nat_lt}
+use Rattle.std.specs.Prelude.{if◌then◌else◌}
 use Rattle.mv_syntax.specs.Table.{EachValid}
-use Rattle.mv_syntax.specs.Words.{is_set, ◌otherwise◌, or_zero, coded_set}
+use Rattle.mv_syntax.specs.Words.{is_set, or_zero, coded_set}
 use Rattle.mv_common.specs.ShortSetValue.{ShortSetValue}
 use Rattle.mv_common.specs.declared.delta.Delta.{Delta}
 use Rattle.mv_common.specs.declared.delta.Side.{Side}

@@ -1,5 +1,5 @@
 -- The steps of the loops that list the deltas of a set.
-use Rattle.std.proofs.Common.{◌≡◌, ℕ, zero, suc, ◌+◌, ◌-◌, ◌<◌, ◌≤◌, Bool, true, false, cond, List, [], ◌∷◌, ◌++◌, length, get_or, take, drop, reverse, map, ℤ, ◌+ℤ◌, refl, sym, ap, ap₂, ◌∙◌, append_assoc, append-nil, arith, add-one, length-append}
+use Rattle.std.proofs.Common.{◌≡◌, ℕ, zero, suc, ◌+◌, ◌<◌, ◌≤◌, List, [], ◌∷◌, ◌++◌, length, get_or, take, drop, reverse, map, ℤ, ◌+ℤ◌, refl, sym, ap, ap₂, ◌∙◌, append_assoc, arith, add-one}
 use Rattle.std.specs.Prelude.{nat_eq}
 use Rattle.std.specs.List.{filter}
 use Rattle.std.proofs.lemmas.List.{reverse-append, map-append, take_more, take_at, drop_at}

@@ -1,6 +1,6 @@
 -- The lists of one size as a loop from index 0, and how many coefficients a list has.
-use Rattle.std.proofs.Common.{◌≡◌, ℕ, ◌+◌, ◌*◌, ◌/◌, ◌^◌, ◌<◌, ◌≤◌, min, Bool, List, [], refl, ◌∙◌, arith, pow_mono}
-use Rattle.mv_syntax.specs.Table.{Table, Valid, read, put}
+use Rattle.std.proofs.Common.{◌≡◌, ℕ, ◌+◌, ◌*◌, ◌/◌, ◌^◌, ◌<◌, ◌≤◌, Bool, List, [], refl, arith, pow_mono}
+use Rattle.mv_syntax.specs.Table.{Valid, read, put}
 use Rattle.mv_syntax.specs.Loops.{items, rest_of_items}
 use Rattle.mv_syntax.proofs.LoopLaws.{items_begin}
 use Rattle.mv_common.specs.ScalingListValue.{ScalingListValue}

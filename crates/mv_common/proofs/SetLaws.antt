@@ -2,11 +2,11 @@
 use Rattle.std.proofs.Common.{◌≡◌, ℕ, zero, suc, ◌+◌, ◌-◌, ◌*◌, ◌^◌, ◌<◌, ◌≤◌, Bool, true, false, ◌&&◌, not, List, [], ◌∷◌, ◌++◌, length, get_or, take, refl, sym, ap, subst, ◌∙◌, append_assoc, append-nil, arith, Option, Some, None}
 use Rattle.std.specs.Prelude.{if◌then◌else◌, nat_lt, nat_eq}
 use Rattle.std.specs.List.{All}
-use Rattle.std.proofs.lemmas.List.Elements.{All-nil, All-weaker, All-from_get_or}
-use Rattle.std.proofs.lemmas.List.{get_or-take, length-take-le, take-take}
+use Rattle.std.proofs.lemmas.List.Elements.{All-weaker, All-from_get_or}
+use Rattle.std.proofs.lemmas.List.{get_or-take, length-take-le}
 use Rattle.std.proofs.lemmas.Bool.{ltb-true, ltb-false}
 use Rattle.mv_syntax.specs.Table.{Valid, EachValid, when, u, ue, put}
-use Rattle.mv_syntax.specs.Words.{◌!◌∶◌, over, is_set, or_zero, coded_set}
+use Rattle.mv_syntax.specs.Words.{◌!◌∶◌, over, or_zero, coded_set}
 use Rattle.mv_syntax.specs.Loops.{columns}
 use Rattle.mv_syntax.proofs.LoopLaws.{each-valid, columns-lengths, columns-valid}
 use Rattle.mv_common.specs.ShortSetValue.{ShortSetValue}
@@ -15,7 +15,7 @@ use Rattle.mv_common.specs.declared.delta.Side.{Side}
 use Rattle.mv_common.specs.declared.delta.Side.TheVariants.{Before, After}
 use Rattle.mv_common.specs.Deltas.{IsSided, IsNear, predicted, direct, reference, deltas, deltas_of_each}
 use Rattle.mv_common.specs.ShortSet.{candidate_flags, picture, num_candidates, set_fields, st_ref_pic_set, ValidSets, AreShortArgs}
-use Rattle.mv_common.proofs.DeltaLaws.{each-take, deltas-at, deltas_of_each-take, length-deltas_of_each, deltas-sided, near_more, direct-near, predicted-near}
+use Rattle.mv_common.proofs.DeltaLaws.{each-take, deltas-at, deltas_of_each-take, deltas-sided, near_more, direct-near, predicted-near}
 
 -- ---- fields
 coded_flag : (c : Bool) (n : ℕ) (flag : Option ℕ) → Valid (when c (u n)) flag → coded_set flag ≡ true → c ≡ true

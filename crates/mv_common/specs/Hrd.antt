@@ -1,5 +1,5 @@
 -- hrd_parameters (E.2.2) and sub_layer_hrd_parameters (E.2.3).
-use Rattle.std.specs.Prelude.{◌≡◌, ℕ, ◌+◌, Bool, false, not, ◌||◌, List, Option, Some, None, refl}
+use Rattle.std.specs.Prelude.{ℕ, ◌+◌, Bool, not, ◌||◌, List, Option, Some, None, refl}
 use Rattle.mv_syntax.specs.Table.{Table, ◌>>=◌, u, ue, named, when, shaped}
 use Rattle.mv_syntax.specs.Words.{◌▸◌, ◌>>◌, ◌!◌∶◌, over, is_set, ◌otherwise◌, or_zero, coded_set}
 use Rattle.mv_syntax.specs.Loops.{items}
@@ -95,9 +95,9 @@ pub record HrdSubLayerValue : Type 0 where
   pub nal_sub_layer_hrd : Option (List Cpb)
   pub vcl_sub_layer_hrd : Option (List Cpb)
 
--- The fields of one sub-layer, by the flags in force. fixed_pic_rate_within_cvs_flag is 1 where it is left out.
-unfoldable pub hrd_sub_layer : HrdFlags → Table HrdSubLayerValue
-hrd_sub_layer flags = shaped
+-- The fields of sub-layer i, by the flags in force. fixed_pic_rate_within_cvs_flag is 1 where it is left out.
+unfoldable pub hrd_sub_layer : HrdFlags → ℕ → Table HrdSubLayerValue
+hrd_sub_layer flags i = shaped
     (λ c. record {
       fixed_pic_rate_general_flag = c.0;
       fixed_pic_rate_within_cvs_flag = c.1.0;
@@ -128,7 +128,7 @@ hrd_sub_layer flags = shaped
 
 -- for i = 0 to subs
 unfoldable pub hrd_sub_layers : ℕ → HrdFlags → Table (List HrdSubLayerValue)
-hrd_sub_layers subs flags = items 0 (subs + 1) (λ i. hrd_sub_layer flags)
+hrd_sub_layers subs flags = items 0 (subs + 1) (hrd_sub_layer flags)
 
 -- The flags in force: those of the first group where it is coded, and else those in force before.
 abbrev pub in_force : Option HrdCommon → HrdFlags → HrdFlags

@@ -1,6 +1,6 @@
 -- The group `profile` of profile_tier_level, of 88 bits (7.3.3).
-use Rattle.std.specs.Prelude.{◌≡◌, ℕ, refl}
-use Rattle.mv_syntax.specs.Table.{Table, ◌>>=◌, u, named, shaped}
+use Rattle.std.specs.Prelude.{refl}
+use Rattle.mv_syntax.specs.Table.{Table, u, named, shaped}
 use Rattle.mv_syntax.specs.Words.{◌▸◌, ◌>>◌}
 use Rattle.mv_common.specs.declared.profile.Profile.{Profile}
 

@@ -1,5 +1,5 @@
 -- profile_tier_level(present, subs) (7.3.3).
-use Rattle.std.specs.Prelude.{◌≡◌, ℕ, ◌-◌, Bool, List, Option, slice_index, refl}
+use Rattle.std.specs.Prelude.{ℕ, ◌-◌, Bool, List, Option, slice_index, refl}
 use Rattle.mv_syntax.specs.Table.{Table, ◌>>=◌, u, named, when, shaped}
 use Rattle.mv_syntax.specs.Words.{◌▸◌, ◌>>◌, over, is_set}
 use Rattle.mv_syntax.specs.Loops.{items, columns}
@@ -16,17 +16,20 @@ pub record ProfileTierValue : Type 0 where
   pub sub_layer_level_idc : List (Option ℕ)
 
 -- for i = 0 to subs-1
-unfoldable pub sub_layer_flags : Table (ℕ × ℕ)
-sub_layer_flags = do
+unfoldable pub sub_layer_flags : ℕ → Table (ℕ × ℕ)
+sub_layer_flags i = do
   named "sub_layer_profile_present_flag" (u 1)
   named "sub_layer_level_present_flag" (u 1)
 
 unfoldable pub all_sub_layer_flags : ℕ → Table (List ℕ × List ℕ)
-all_sub_layer_flags subs = columns 0 subs (λ i. sub_layer_flags)
+all_sub_layer_flags subs = columns 0 subs sub_layer_flags
 
 -- for i = subs to 7
+unfoldable pub reserved_pair : ℕ → Table ℕ
+reserved_pair i = named "reserved_zero_2bits" (u 2)
+
 unfoldable pub reserved_bits : ℕ → Table (List ℕ)
-reserved_bits subs = items subs (8 - subs) (λ i. named "reserved_zero_2bits" (u 2))
+reserved_bits subs = items subs (8 - subs) reserved_pair
 
 -- for i = 0 to subs-1, by the flags of i
 unfoldable pub sub_layer : List ℕ → List ℕ → ℕ → Table (Option Profile × Option ℕ)

@@ -1,5 +1,5 @@
 -- The scaling lists of a parameter set, scaling_list_data (7.3.4).
-use Rattle.std.specs.Prelude.{◌≡◌, ℕ, ℤ, ◌+◌, ◌*◌, ◌/◌, ◌^◌, min, Bool, not, ◌&&◌, List, nat_lt, nat_eq, refl, if◌then◌else◌}
+use Rattle.std.specs.Prelude.{ℕ, ℤ, ◌+◌, ◌*◌, ◌/◌, ◌^◌, min, Bool, not, ◌&&◌, List, nat_lt, nat_eq, refl, if◌then◌else◌}
 use Rattle.mv_syntax.specs.Table.{Table, ◌>>=◌, u, ue, se, named, when, repeat, shaped}
 use Rattle.mv_syntax.specs.Words.{◌▸◌, ◌>>◌, is_set}
 use Rattle.mv_syntax.specs.Loops.{items}

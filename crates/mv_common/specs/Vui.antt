@@ -1,5 +1,5 @@
 -- vui_parameters (E.2.1), part by part: each part is a run of its lines.
-use Rattle.std.specs.Prelude.{◌≡◌, ℕ, Bool, true, false, Option, nat_eq, refl}
+use Rattle.std.specs.Prelude.{ℕ, Bool, true, false, Option, nat_eq, refl}
 use Rattle.mv_syntax.specs.Table.{Table, ◌>>=◌, u, ue, named, when, shaped}
 use Rattle.mv_syntax.specs.Words.{◌▸◌, ◌>>◌, is_set, or_zero, coded_set}
 use Rattle.mv_common.specs.Hrd.{HrdValue, hrd_parameters}

@@ -55,8 +55,9 @@ fn hrd_sub_layer_of(
     alloc: Global,
     bits: &mut BitReader,
     flags: HrdFlags,
+    i: u8,
 ) -> Result<HrdSubLayer, FieldFault>
-    ensures { Fills (λ v. v) means bits.old bits.new result (read (hrd_sub_layer flags) bits.old.left) }
+    ensures { Fills (λ v. v) means bits.old bits.new result (read (hrd_sub_layer flags i) bits.old.left) }
 {
     let fixed_pic_rate_general_flag = u8_of(bits, 1)?;
     let fixed_pic_rate_within_cvs_flag = u8_if(bits, fixed_pic_rate_general_flag != 1, 1)?;
@@ -83,9 +84,10 @@ fn put_hrd_sub_layer(
     out: &mut BitWriter,
     v: &HrdSubLayer,
     flags: HrdFlags,
+    i: usize,
 ) -> Result<(), AllocError>
-    requires { Valid (hrd_sub_layer flags) v.now }
-    ensures { OnOk result (out.new ≡ put (hrd_sub_layer flags) v.now out.old) }
+    requires { Valid (hrd_sub_layer flags i) v.now }
+    ensures { OnOk result (out.new ≡ put (hrd_sub_layer flags i) v.now out.old) }
 {
     let within_cvs = v.fixed_pic_rate_within_cvs_flag.unwrap_or(1) == 1;
     let count = or_zero(v.cpb_cnt_minus1);
@@ -115,8 +117,8 @@ pub(crate) fn hrd_sub_layers_of(
 {
     let turns = subs + 1;
     let mut sub_layers = Vec::new(alloc);
-    for _ in 0..turns {
-        sub_layers.push(hrd_sub_layer_of(alloc, bits, flags)?)?;
+    for i in 0..turns {
+        sub_layers.push(hrd_sub_layer_of(alloc, bits, flags, i)?)?;
     }
     Ok(sub_layers)
 }
@@ -131,8 +133,8 @@ pub(crate) fn put_hrd_sub_layers(
     requires { Valid (hrd_sub_layers subs flags) sub_layers.now }
     ensures { OnOk result (out.new ≡ put (hrd_sub_layers subs flags) sub_layers.now out.old) }
 {
-    for v in sub_layers {
-        put_hrd_sub_layer(out, v, flags)?;
+    for i in 0..sub_layers.len() {
+        put_hrd_sub_layer(out, &sub_layers[i], flags, i)?;
     }
     Ok(())
 }

@@ -4,7 +4,7 @@ ghost use Rattle.mv_syntax.specs.Words.{over};
 ghost use Rattle.mv_syntax.specs.Answers.{Fills, Answers};
 ghost use Rattle.mv_common.specs.Faults.{means};
 ghost use Rattle.mv_common.specs.Profile.{profile};
-ghost use Rattle.mv_common.specs.ProfileTier.{sub_layer_flags, all_sub_layer_flags, reserved_bits, sub_layer, sub_layers, profile_tier_level};
+ghost use Rattle.mv_common.specs.ProfileTier.{sub_layer_flags, all_sub_layer_flags, reserved_pair, reserved_bits, sub_layer, sub_layers, profile_tier_level};
 
 use crate::fault::FieldFault;
 use crate::fields::{put_u8, put_u8_if, u8_if, u8_of};
@@ -60,8 +60,8 @@ fn profile_if(bits: &mut BitReader, present: bool) -> Result<Option<Profile>, Fi
 }
 
 #[tactic(auto, unfolding(crate::specs::ProfileTier::sub_layer_flags))]
-fn sub_layer_flags_of(bits: &mut BitReader) -> Result<(u8, u8), FieldFault>
-    ensures { Fills (λ v. v) means bits.old bits.new result (read sub_layer_flags bits.old.left) }
+fn sub_layer_flags_of(bits: &mut BitReader, i: u8) -> Result<(u8, u8), FieldFault>
+    ensures { Fills (λ v. v) means bits.old bits.new result (read (sub_layer_flags i) bits.old.left) }
 {
     Ok((u8_of(bits, 1)?, u8_of(bits, 1)?))
 }
@@ -76,12 +76,19 @@ fn all_sub_layer_flags_of(
 {
     let mut profile_flags = Vec::new(alloc);
     let mut level_flags = Vec::new(alloc);
-    for _ in 0..subs {
-        let (profile_flag, level_flag) = sub_layer_flags_of(bits)?;
+    for i in 0..subs {
+        let (profile_flag, level_flag) = sub_layer_flags_of(bits, i)?;
         profile_flags.push(profile_flag)?;
         level_flags.push(level_flag)?;
     }
     Ok((profile_flags, level_flags))
+}
+
+#[tactic(auto, unfolding(crate::specs::ProfileTier::reserved_pair))]
+fn reserved_pair_of(bits: &mut BitReader, i: u8) -> Result<u8, FieldFault>
+    ensures { Fills (λ v. v) means bits.old bits.new result (read (reserved_pair i) bits.old.left) }
+{
+    Ok(u8_of(bits, 2)?)
 }
 
 #[tactic(auto, using(mv_syntax::proofs::LoopLaws::item_steps), unfolding(crate::specs::ProfileTier::reserved_bits))]
@@ -90,8 +97,8 @@ fn reserved_bits_of(alloc: Global, bits: &mut BitReader, subs: u8) -> Result<Vec
     ensures { Fills (λ v. v.items) means bits.old bits.new result (read (reserved_bits subs) bits.old.left) }
 {
     let mut reserved = Vec::new(alloc);
-    for _ in subs..8 {
-        reserved.push(u8_of(bits, 2)?)?;
+    for i in subs..8 {
+        reserved.push(reserved_pair_of(bits, i)?)?;
     }
     Ok(reserved)
 }
@@ -171,9 +178,10 @@ fn put_sub_layer_flags(
     out: &mut BitWriter,
     profile_flag: u8,
     level_flag: u8,
+    i: usize,
 ) -> Result<(), AllocError>
-    requires { Valid sub_layer_flags (profile_flag, level_flag) }
-    ensures { OnOk result (out.new ≡ put sub_layer_flags (profile_flag, level_flag) out.old) }
+    requires { Valid (sub_layer_flags i) (profile_flag, level_flag) }
+    ensures { OnOk result (out.new ≡ put (sub_layer_flags i) (profile_flag, level_flag) out.old) }
 {
     put_u8(out, 1, profile_flag)?;
     put_u8(out, 1, level_flag)
@@ -190,9 +198,17 @@ fn put_all_sub_layer_flags(
     ensures { OnOk result (out.new ≡ put (all_sub_layer_flags subs) (profile_flags.now, level_flags.now) out.old) }
 {
     for i in 0..profile_flags.len() {
-        put_sub_layer_flags(out, profile_flags[i], level_flags[i])?;
+        put_sub_layer_flags(out, profile_flags[i], level_flags[i], i)?;
     }
     Ok(())
+}
+
+#[tactic(auto, unfolding(crate::specs::ProfileTier::reserved_pair))]
+fn put_reserved_pair(out: &mut BitWriter, i: usize, field: u8) -> Result<(), AllocError>
+    requires { Valid (reserved_pair i) field }
+    ensures { OnOk result (out.new ≡ put (reserved_pair i) field out.old) }
+{
+    put_u8(out, 2, field)
 }
 
 #[tactic(auto, using(mv_syntax::proofs::LoopLaws::put_item_steps), unfolding(crate::specs::ProfileTier::reserved_bits))]
@@ -200,8 +216,8 @@ fn put_reserved_bits(out: &mut BitWriter, reserved: &[u8], subs: u8) -> Result<(
     requires { Valid (reserved_bits subs) reserved.now }
     ensures { OnOk result (out.new ≡ put (reserved_bits subs) reserved.now out.old) }
 {
-    for field in reserved {
-        put_u8(out, 2, *field)?;
+    for i in 0..reserved.len() {
+        put_reserved_pair(out, usize::from(subs) + i, reserved[i])?;
     }
     Ok(())
 }

@@ -1,10 +1,10 @@
-use Rattle.std.proofs.Common.{◌≡◌, ◌+◌, ◌-◌, ◌*◌, ◌<◌, ◌≤◌, Bool, true, List, length, get_or, take, [], refl, sym, ap, ◌∙◌, subst, arith}
+use Rattle.std.proofs.Common.{◌≡◌, ◌+◌, ◌-◌, ◌<◌, ◌≤◌, true, List, length, get_or, take, [], sym, ap, ◌∙◌, subst, arith}
 use Rattle.std.specs.Result.{IfOk}
 use Rattle.mv_syntax.specs.Words.{or_zero, coded_set}
 use Rattle.mv_common.specs.ShortSetValue.{ShortSetValue}
 use Rattle.mv_common.specs.declared.delta.Delta.{Delta}
 use Rattle.mv_common.specs.Deltas.{IsSided, IsNear, reference, deltas, deltas_of_each}
-use Rattle.mv_common.proofs.SetLaws.{SetFacts, set_facts, ReferenceFacts, reference_facts, EarlierFacts, earlier_facts}
+use Rattle.mv_common.proofs.SetLaws.{set_facts, reference_facts, earlier_facts}
 use Rattle.mv_common.proofs.deltas.+deltas.Goals as goal
 
 -- the reference set stands among the sets before it

@@ -1,6 +1,6 @@
-use Rattle.std.proofs.Common.{◌≡◌, ◌+◌, ◌-◌, [], ◌∷◌, ◌++◌, get_or, false, ap, ◌∙◌, ℤ, pos, arith, rules, to_z, of_z}
+use Rattle.std.proofs.Common.{◌≡◌, ◌+◌, ◌-◌, [], ◌∷◌, ◌++◌, false, ap, ◌∙◌, ℤ, pos, arith, rules, to_z, of_z}
 use mir.Syntax.{w32}
-use Rattle.mv_common.specs.Deltas.{taken, moved}
+use Rattle.mv_common.specs.Deltas.{taken}
 use Rattle.mv_common.proofs.DeltaSteps.{backward_turn}
 use Rattle.mv_common.proofs.deltas.add_backward.Goals as goal
 

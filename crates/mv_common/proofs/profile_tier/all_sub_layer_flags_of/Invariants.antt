@@ -4,7 +4,7 @@ use Rattle.mv_syntax.specs.Loops.{rest_of_columns}
 use Rattle.mv_common.specs.ProfileTier.{sub_layer_flags, all_sub_layer_flags}
 use Rattle.mv_common.proofs.profile_tier.all_sub_layer_flags_of.Given as goal
 
-abbrev pub invariant-loop : goal.invariant-loop
-invariant-loop l =
-    (read (all_sub_layer_flags l.subs) l.fn.bits.left ≡ rest_of_columns (λ _. sub_layer_flags) l.counter l.subs l.profile_flags.items l.level_flags.items l.bits.left)
+abbrev pub invariant-loop-i : goal.invariant-loop-i
+invariant-loop-i l =
+    (read (all_sub_layer_flags l.subs) l.fn.bits.left ≡ rest_of_columns sub_layer_flags l.i l.subs l.profile_flags.items l.level_flags.items l.bits.left)
     × (l.bits.total ≡ l.fn.bits.total)

@@ -5,4 +5,4 @@ use Rattle.mv_common.specs.ProfileTier.{sub_layer_flags}
 use Rattle.mv_common.proofs.profile_tier.put_all_sub_layer_flags.Given as goal
 
 abbrev pub invariant-loop-i : goal.invariant-loop-i
-invariant-loop-i l = l.out ≡ put (columns 0 l.subs (λ _. sub_layer_flags)) (take l.i l.profile_flags, take l.i l.level_flags) l.fn.out
+invariant-loop-i l = l.out ≡ put (columns 0 l.subs sub_layer_flags) (take l.i l.profile_flags, take l.i l.level_flags) l.fn.out
