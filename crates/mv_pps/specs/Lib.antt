@@ -1,4 +1,3 @@
-pub mod Faults
 pub mod Head
 pub mod Quantization
 pub mod Tools

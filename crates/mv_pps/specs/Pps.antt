@@ -90,3 +90,7 @@ has_tail None = false
 -- (pps_extension_data_flag) and the trailing bits.
 abbrev pub pps : Payload PpsValue
 pps = record { fields = pps_fields; size_rule = 47; has_tail = λ v. has_tail v.extension }
+
+-- The rule of a payload that is no picture parameter set, PpsSyntax; no field breaks it (this project's profile).
+abbrev pub syntax_rule : ℕ
+syntax_rule = 40

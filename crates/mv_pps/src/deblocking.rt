@@ -1,13 +1,12 @@
 ghost use Rattle.std.specs.Prelude.{◌≡◌, OnOk};
 ghost use Rattle.mv_syntax.specs.Table.{Valid, read, put};
 ghost use Rattle.mv_syntax.specs.Answers.{Fills};
-ghost use Rattle.mv_pps.specs.Faults.{means};
+ghost use Rattle.mv_fields.specs.Faults.{means};
 ghost use Rattle.mv_pps.specs.Deblocking.{deblocking};
 
-use crate::fault::PpsFault;
-use crate::fields::{put_se_if, se_if};
 use mv_bits::{BitReader, BitWriter};
 use mv_common::{coded_set, put_u8, put_u8_if, u8_if, u8_of};
+use mv_fields::{HeaderFault, put_se_if, se_if};
 use std::alloc::AllocError;
 
 /// The deblocking filter in a picture parameter set.
@@ -21,7 +20,7 @@ pub struct PpsDeblocking {
 }
 
 #[tactic(auto, unfolding(crate::specs::Deblocking::deblocking))]
-pub(crate) fn deblocking_of(bits: &mut BitReader) -> Result<PpsDeblocking, PpsFault>
+pub(crate) fn deblocking_of(bits: &mut BitReader) -> Result<PpsDeblocking, HeaderFault>
     ensures { Fills (λ v. v) means bits.old bits.new result (read deblocking bits.old.left) }
 {
     let deblocking_filter_control_present_flag = u8_of(bits, 1)?;

@@ -1,14 +1,13 @@
 ghost use Rattle.std.specs.Prelude.{◌≡◌, OnOk};
 ghost use Rattle.mv_syntax.specs.Table.{when, Valid, read, put};
 ghost use Rattle.mv_syntax.specs.Answers.{Fills};
-ghost use Rattle.mv_pps.specs.Faults.{means};
+ghost use Rattle.mv_fields.specs.Faults.{means};
 ghost use Rattle.mv_pps.specs.Extension.{extension};
 
-use crate::fault::PpsFault;
-use crate::fields::unset_flag;
 use crate::multilayer::{PpsMultilayer, multilayer_if, put_multilayer_if};
 use mv_bits::{BitReader, BitWriter};
 use mv_common::{put_u8, u8_of};
+use mv_fields::{HeaderFault, unset_flag};
 use mv_io::Rule;
 use std::alloc::AllocError;
 
@@ -24,7 +23,7 @@ pub struct PpsExtension {
 }
 
 #[tactic(auto, unfolding(crate::specs::Extension::extension))]
-fn extension_of(bits: &mut BitReader) -> Result<PpsExtension, PpsFault>
+fn extension_of(bits: &mut BitReader) -> Result<PpsExtension, HeaderFault>
     ensures { Fills (λ v. v) means bits.old bits.new result (read extension bits.old.left) }
 {
     let pps_range_extension_flag = unset_flag(bits, Rule::PpsRange)?;
@@ -55,7 +54,7 @@ fn put_extension(out: &mut BitWriter, v: &PpsExtension) -> Result<(), AllocError
 pub(crate) fn extension_if(
     bits: &mut BitReader,
     present: bool,
-) -> Result<Option<PpsExtension>, PpsFault>
+) -> Result<Option<PpsExtension>, HeaderFault>
     ensures { Fills (λ v. v) means bits.old bits.new result (read (when present extension) bits.old.left) }
 {
     if !present {

@@ -1,13 +1,12 @@
 ghost use Rattle.std.specs.Prelude.{◌≡◌, OnOk};
 ghost use Rattle.mv_syntax.specs.Table.{Valid, read, put};
 ghost use Rattle.mv_syntax.specs.Answers.{Fills};
-ghost use Rattle.mv_pps.specs.Faults.{means};
+ghost use Rattle.mv_fields.specs.Faults.{means};
 ghost use Rattle.mv_pps.specs.Head.{head};
 
-use crate::fault::PpsFault;
-use crate::fields::ue_within;
 use mv_bits::{BitReader, BitWriter};
 use mv_common::{put_u8, put_ue, u8_of};
+use mv_fields::{HeaderFault, ue_within};
 use mv_io::Rule;
 use std::alloc::AllocError;
 
@@ -26,7 +25,7 @@ pub struct PpsHead {
 }
 
 #[tactic(auto, unfolding(crate::specs::Head::head))]
-pub(crate) fn head_of(bits: &mut BitReader) -> Result<PpsHead, PpsFault>
+pub(crate) fn head_of(bits: &mut BitReader) -> Result<PpsHead, HeaderFault>
     ensures { Fills (λ v. v) means bits.old bits.new result (read head bits.old.left) }
 {
     Ok(PpsHead {

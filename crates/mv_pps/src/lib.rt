@@ -3,15 +3,12 @@
 
 mod deblocking;
 mod extension;
-mod fault;
-mod fields;
 mod head;
 mod laws;
 mod multilayer;
 mod payload;
 mod pps;
 mod quantization;
-mod scaling;
 mod tiles;
 mod tools;
 

@@ -1,13 +1,12 @@
 ghost use Rattle.std.specs.Prelude.{◌≡◌, OnOk};
 ghost use Rattle.mv_syntax.specs.Table.{when, Valid, read, put};
 ghost use Rattle.mv_syntax.specs.Answers.{Fills};
-ghost use Rattle.mv_pps.specs.Faults.{means};
+ghost use Rattle.mv_fields.specs.Faults.{means};
 ghost use Rattle.mv_pps.specs.Extension.{multilayer_extension};
 
-use crate::fault::PpsFault;
-use crate::fields::{ue_within, unset_flag};
 use mv_bits::{BitReader, BitWriter};
 use mv_common::{put_u8, put_u8_if, put_ue, u8_if, u8_of};
+use mv_fields::{HeaderFault, ue_within, unset_flag};
 use mv_io::Rule;
 use std::alloc::AllocError;
 
@@ -22,7 +21,7 @@ pub struct PpsMultilayer {
 }
 
 #[tactic(auto, unfolding(crate::specs::Extension::multilayer_extension))]
-fn multilayer_of(bits: &mut BitReader) -> Result<PpsMultilayer, PpsFault>
+fn multilayer_of(bits: &mut BitReader) -> Result<PpsMultilayer, HeaderFault>
     ensures { Fills (λ v. v) means bits.old bits.new result (read multilayer_extension bits.old.left) }
 {
     let poc_reset_info_present_flag = unset_flag(bits, Rule::PocReset)?;
@@ -56,7 +55,7 @@ fn put_multilayer(out: &mut BitWriter, v: &PpsMultilayer) -> Result<(), AllocErr
 pub(crate) fn multilayer_if(
     bits: &mut BitReader,
     present: bool,
-) -> Result<Option<PpsMultilayer>, PpsFault>
+) -> Result<Option<PpsMultilayer>, HeaderFault>
     ensures { Fills (λ v. v) means bits.old bits.new result (read (when present multilayer_extension) bits.old.left) }
 {
     if !present {

@@ -1,22 +1,19 @@
 //! The payload of a picture parameter set: read, and written.
 
-ghost use Rattle.std.specs.Prelude.{◌≡◌, ◌≤◌, length, IfOk};
+ghost use Rattle.std.specs.Prelude.{◌≡◌, IfOk};
 ghost use Rattle.mv_syntax.specs.Bits.{byte_bits};
-ghost use Rattle.mv_syntax.specs.Payload.{size_limit, ValidPayload, payload_bits, read_payload};
-ghost use Rattle.mv_syntax.specs.Answers.{FillsPayload, AnswersPayload};
-ghost use Rattle.mv_pps.specs.Faults.{means, refusal_means};
-ghost use Rattle.mv_pps.specs.Pps.{pps, has_tail};
+ghost use Rattle.mv_syntax.specs.Payload.{ValidPayload, payload_bits, read_payload};
+ghost use Rattle.mv_syntax.specs.Answers.{FillsPayload, AnswersPayloadBy};
+ghost use Rattle.mv_fields.specs.Faults.{means, broken_rule};
+ghost use Rattle.mv_pps.specs.Pps.{pps, syntax_rule, has_tail};
 
 use crate::extension::PpsExtension;
-use crate::fault::PpsFault;
 use crate::pps::{Pps, fields_of, put_fields};
 use mv_bits::{BitReader, BitWriter};
-use mv_common::{payload_end_of, put_payload_end};
+use mv_common::put_payload_end;
+use mv_fields::{HeaderFault, MAX_BYTES, payload_end_of};
 use mv_io::{ReadFault, Rule};
 use std::alloc::{AllocError, Global};
-
-/// The greatest payload of a parameter set, in bytes.
-const MAX_BYTES: usize = 65_536;
 
 // Whether a tail stands behind the fields.
 fn has_tail(extension: Option<PpsExtension>) -> bool
@@ -28,11 +25,12 @@ fn has_tail(extension: Option<PpsExtension>) -> bool
     }
 }
 
-// The fields and the end of a payload that is not too long.
-fn parts_of(alloc: Global, payload: &[u8]) -> Result<Pps, PpsFault>
-    requires { length (byte_bits payload.now) ≤ size_limit }
+fn payload_of(alloc: Global, payload: &[u8]) -> Result<Pps, HeaderFault>
     ensures { FillsPayload (λ v. v) means result (read_payload pps (byte_bits payload.now)) }
 {
+    if payload.len() > MAX_BYTES {
+        return Err(HeaderFault::Breaks(Rule::PpsLimit));
+    }
     let mut bits = BitReader::new(payload);
     let value = match fields_of(alloc, &mut bits) {
         Ok(value) => value,
@@ -40,7 +38,7 @@ fn parts_of(alloc: Global, payload: &[u8]) -> Result<Pps, PpsFault>
     };
     match payload_end_of(alloc, &mut bits, has_tail(value.extension)) {
         Ok(tail) => Ok(Pps { tail, ..value }),
-        Err(fault) => Err(PpsFault::from(fault)),
+        Err(fault) => Err(fault),
     }
 }
 
@@ -51,16 +49,11 @@ fn parts_of(alloc: Global, payload: &[u8]) -> Result<Pps, PpsFault>
 /// `ColourMapping` at the field that each names; with `PpsSyntax` where no rule is broken and the bytes are no picture
 /// parameter set. `Memory` where memory runs out.
 pub fn read_pps(alloc: Global, payload: &[u8]) -> Result<Pps, ReadFault>
-    ensures { AnswersPayload (λ v. v) refusal_means pps (byte_bits payload.now) result }
+    ensures { AnswersPayloadBy (λ v. v) broken_rule syntax_rule pps (byte_bits payload.now) result }
 {
-    if payload.len() > MAX_BYTES {
-        return Err(ReadFault::Refused(Rule::PpsLimit));
-    }
-    match parts_of(alloc, payload) {
+    match payload_of(alloc, payload) {
         Ok(value) => Ok(value),
-        Err(PpsFault::NoBits) => Err(ReadFault::Refused(Rule::PpsSyntax)),
-        Err(PpsFault::Breaks(rule)) => Err(ReadFault::Refused(rule)),
-        Err(PpsFault::Memory) => Err(ReadFault::Memory),
+        Err(fault) => Err(fault.refusal(Rule::PpsSyntax)),
     }
 }
 

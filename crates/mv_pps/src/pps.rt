@@ -1,19 +1,19 @@
 ghost use Rattle.std.specs.Prelude.{◌≡◌, OnOk};
 ghost use Rattle.mv_syntax.specs.Table.{Valid, read, put};
 ghost use Rattle.mv_syntax.specs.Answers.{Fills};
-ghost use Rattle.mv_pps.specs.Faults.{means};
+ghost use Rattle.mv_fields.specs.Faults.{means};
 ghost use Rattle.mv_pps.specs.Pps.{pps_fields};
 
 use crate::deblocking::{PpsDeblocking, deblocking_of, put_deblocking};
 use crate::extension::{PpsExtension, extension_if, put_extension_if};
-use crate::fault::PpsFault;
 use crate::head::{PpsHead, head_of, put_head};
 use crate::quantization::{PpsQuantization, put_quantization, quantization_of};
-use crate::scaling::{put_scaling_lists_if, scaling_lists_if};
 use crate::tiles::{PpsTiles, put_tiles_if, tiles_if};
 use crate::tools::{PpsTools, put_tools, tools_of};
 use mv_bits::{BitReader, BitWriter};
 use mv_common::{ScalingLists, put_u8, put_ue, u8_of};
+use mv_fields::{HeaderFault, put_scaling_lists_if, scaling_lists_if};
+use mv_io::Rule;
 use std::alloc::{AllocError, Global};
 use std::marker::Model;
 
@@ -67,7 +67,7 @@ impl Model for Pps {
 
 /// The fields of a picture parameter set, up to the tail, which is None here.
 #[tactic(auto, unfolding(crate::specs::Pps::pps_fields))]
-pub(crate) fn fields_of(alloc: Global, bits: &mut BitReader) -> Result<Pps, PpsFault>
+pub(crate) fn fields_of(alloc: Global, bits: &mut BitReader) -> Result<Pps, HeaderFault>
     ensures { Fills (λ v. v.0) means bits.old bits.new result (read pps_fields bits.old.left) }
 {
     let head = head_of(bits)?;
@@ -77,7 +77,12 @@ pub(crate) fn fields_of(alloc: Global, bits: &mut BitReader) -> Result<Pps, PpsF
     let pps_loop_filter_across_slices_enabled_flag = u8_of(bits, 1)?;
     let deblocking = deblocking_of(bits)?;
     let pps_scaling_list_data_present_flag = u8_of(bits, 1)?;
-    let scaling_list_data = scaling_lists_if(alloc, bits, pps_scaling_list_data_present_flag == 1)?;
+    let scaling_list_data = scaling_lists_if(
+        alloc,
+        bits,
+        pps_scaling_list_data_present_flag == 1,
+        Rule::PpsLimit,
+    )?;
     let lists_modification_present_flag = u8_of(bits, 1)?;
     let log2_parallel_merge_level_minus2 = bits.ue()?;
     let slice_segment_header_extension_present_flag = u8_of(bits, 1)?;
@@ -115,7 +120,7 @@ pub(crate) fn put_fields(out: &mut BitWriter, v: &Pps) -> Result<(), AllocError>
     put_deblocking(out, &v.deblocking)?;
     put_u8(out, 1, v.pps_scaling_list_data_present_flag)?;
     let listed = v.pps_scaling_list_data_present_flag == 1;
-    put_scaling_lists_if(out, listed, &v.scaling_list_data)?;
+    put_scaling_lists_if(out, listed, Rule::PpsLimit, &v.scaling_list_data)?;
     put_u8(out, 1, v.lists_modification_present_flag)?;
     put_ue(out, v.log2_parallel_merge_level_minus2)?;
     put_u8(out, 1, v.slice_segment_header_extension_present_flag)?;

@@ -1,13 +1,12 @@
 ghost use Rattle.std.specs.Prelude.{◌≡◌, OnOk};
 ghost use Rattle.mv_syntax.specs.Table.{Valid, read, put};
 ghost use Rattle.mv_syntax.specs.Answers.{Fills};
-ghost use Rattle.mv_pps.specs.Faults.{means};
+ghost use Rattle.mv_fields.specs.Faults.{means};
 ghost use Rattle.mv_pps.specs.Quantization.{quantization};
 
-use crate::fault::PpsFault;
-use crate::fields::put_se;
 use mv_bits::{BitReader, BitWriter};
 use mv_common::{put_u8, put_ue_if, u8_of, ue_if};
+use mv_fields::{HeaderFault, put_se};
 use std::alloc::AllocError;
 
 /// The fields of a picture parameter set on residuals and their quantization.
@@ -24,7 +23,7 @@ pub struct PpsQuantization {
 }
 
 #[tactic(auto, unfolding(crate::specs::Quantization::quantization))]
-pub(crate) fn quantization_of(bits: &mut BitReader) -> Result<PpsQuantization, PpsFault>
+pub(crate) fn quantization_of(bits: &mut BitReader) -> Result<PpsQuantization, HeaderFault>
     ensures { Fills (λ v. v) means bits.old bits.new result (read quantization bits.old.left) }
 {
     let init_qp_minus26 = bits.se()?;

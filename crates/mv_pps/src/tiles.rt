@@ -1,13 +1,12 @@
 ghost use Rattle.std.specs.Prelude.{◌≡◌, OnOk, option_map};
 ghost use Rattle.mv_syntax.specs.Table.{when, Valid, read, put};
 ghost use Rattle.mv_syntax.specs.Answers.{Fills};
-ghost use Rattle.mv_pps.specs.Faults.{means};
+ghost use Rattle.mv_fields.specs.Faults.{means};
 ghost use Rattle.mv_pps.specs.Tiles.{size, sizes, tiles};
 
-use crate::fault::PpsFault;
-use crate::fields::ue_within;
 use mv_bits::{BitReader, BitWriter};
 use mv_common::{put_u8, put_ue, u8_of};
+use mv_fields::{HeaderFault, ue_within};
 use mv_io::Rule;
 use std::alloc::{AllocError, Global};
 use std::marker::Model;
@@ -41,14 +40,14 @@ impl Model for PpsTiles {
 }
 
 #[tactic(auto, unfolding(crate::specs::Tiles::size))]
-fn size_of_one(bits: &mut BitReader, i: u32) -> Result<u32, PpsFault>
+fn size_of_one(bits: &mut BitReader, i: u32) -> Result<u32, HeaderFault>
     ensures { Fills (λ v. v) means bits.old bits.new result (read (size i) bits.old.left) }
 {
     Ok(bits.ue()?)
 }
 
 #[tactic(auto, using(mv_syntax::proofs::LoopLaws::item_steps), unfolding(crate::specs::Tiles::sizes))]
-fn sizes_of(alloc: Global, bits: &mut BitReader, n: u32) -> Result<Vec<u32>, PpsFault>
+fn sizes_of(alloc: Global, bits: &mut BitReader, n: u32) -> Result<Vec<u32>, HeaderFault>
     ensures { Fills (λ v. v.items) means bits.old bits.new result (read (sizes n) bits.old.left) }
 {
     let mut all = Vec::new(alloc);
@@ -63,7 +62,7 @@ fn sizes_if(
     bits: &mut BitReader,
     present: bool,
     n: u32,
-) -> Result<Option<Vec<u32>>, PpsFault>
+) -> Result<Option<Vec<u32>>, HeaderFault>
     ensures { Fills (λ o. option_map (λ v. v.items) o) means bits.old bits.new result (read (when present (sizes n)) bits.old.left) }
 {
     if !present {
@@ -73,7 +72,7 @@ fn sizes_if(
 }
 
 #[tactic(auto, unfolding(crate::specs::Tiles::tiles))]
-fn tiles_of(alloc: Global, bits: &mut BitReader) -> Result<PpsTiles, PpsFault>
+fn tiles_of(alloc: Global, bits: &mut BitReader) -> Result<PpsTiles, HeaderFault>
     ensures { Fills (λ v. v) means bits.old bits.new result (read tiles bits.old.left) }
 {
     let num_tile_columns_minus1 = ue_within(bits, Rule::PpsLimit, 255)?;
@@ -97,7 +96,7 @@ pub(crate) fn tiles_if(
     alloc: Global,
     bits: &mut BitReader,
     present: bool,
-) -> Result<Option<PpsTiles>, PpsFault>
+) -> Result<Option<PpsTiles>, HeaderFault>
     ensures { Fills (λ v. v) means bits.old bits.new result (read (when present tiles) bits.old.left) }
 {
     if !present {

@@ -1,12 +1,12 @@
 ghost use Rattle.std.specs.Prelude.{◌≡◌, OnOk};
 ghost use Rattle.mv_syntax.specs.Table.{Valid, read, put};
 ghost use Rattle.mv_syntax.specs.Answers.{Fills};
-ghost use Rattle.mv_pps.specs.Faults.{means};
+ghost use Rattle.mv_fields.specs.Faults.{means};
 ghost use Rattle.mv_pps.specs.Tools.{tools};
 
-use crate::fault::PpsFault;
 use mv_bits::{BitReader, BitWriter};
 use mv_common::{put_u8, u8_of};
+use mv_fields::HeaderFault;
 use std::alloc::AllocError;
 
 /// The flags of a picture parameter set that switch coding tools on.
@@ -20,7 +20,7 @@ pub struct PpsTools {
 }
 
 #[tactic(auto, unfolding(crate::specs::Tools::tools))]
-pub(crate) fn tools_of(bits: &mut BitReader) -> Result<PpsTools, PpsFault>
+pub(crate) fn tools_of(bits: &mut BitReader) -> Result<PpsTools, HeaderFault>
     ensures { Fills (λ v. v) means bits.old bits.new result (read tools bits.old.left) }
 {
     Ok(PpsTools {
