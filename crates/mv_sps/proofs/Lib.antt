@@ -1,0 +1,3 @@
+pub mod Subs
+pub mod Sets
+pub mod Bounds

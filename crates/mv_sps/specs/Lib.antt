@@ -1,0 +1,12 @@
+pub mod Head
+pub mod Format
+pub mod Ordering
+pub mod Blocks
+pub mod Scaling
+pub mod Tools
+pub mod References
+pub mod Extension
+pub mod Pictures
+pub mod Coding
+pub mod Usability
+pub mod Sps

@@ -1,0 +1,80 @@
+ghost use Rattle.std.specs.Prelude.{◌≡◌, ◌≤◌, OnOk};
+ghost use Rattle.mv_syntax.specs.Table.{Valid, read, put};
+ghost use Rattle.mv_syntax.specs.Answers.{Fills};
+ghost use Rattle.mv_fields.specs.Faults.{means};
+ghost use Rattle.mv_sps.specs.Coding.{coding};
+
+use crate::blocks::{SpsBlocks, blocks_of, put_blocks};
+use crate::references::{SpsReferences, put_references, references_of};
+use crate::scaling::{SpsScaling, put_scaling, scaling_of};
+use crate::tools::{SpsTools, put_tools, tools_of};
+use mv_bits::{BitReader, BitWriter};
+use mv_common::{put_u8, u8_of};
+use mv_fields::HeaderFault;
+use std::alloc::{AllocError, Global};
+use std::marker::Model;
+
+/// How the pictures are coded: their blocks, scaling lists, tools and references.
+#[derive(Debug, Drop)]
+pub struct SpsCoding {
+    pub blocks: SpsBlocks,
+    pub scaling: SpsScaling,
+    pub tools: SpsTools,
+    pub references: SpsReferences,
+    pub sps_temporal_mvp_enabled_flag: u8,
+    pub strong_intra_smoothing_enabled_flag: u8,
+}
+
+impl Model for SpsCoding {
+    ghost use Rattle.mv_sps.specs.Coding.{SpsCodingValue};
+
+    ghost Value = { SpsCodingValue };
+
+    ghost view = { λ c. record {
+      blocks = c.blocks;
+      scaling = c.scaling;
+      tools = c.tools;
+      references = c.references;
+      sps_temporal_mvp_enabled_flag = c.sps_temporal_mvp_enabled_flag;
+      strong_intra_smoothing_enabled_flag = c.strong_intra_smoothing_enabled_flag;
+    } };
+}
+
+#[tactic(auto, unfolding(crate::specs::Coding::coding))]
+pub(crate) fn coding_of(
+    alloc: Global,
+    bits: &mut BitReader,
+    ext: bool,
+    lsb_bits: u8,
+) -> Result<SpsCoding, HeaderFault>
+    requires { lsb_bits ≤ 16 }
+    ensures { Fills (λ v. v) means bits.old bits.new result (read (coding ext lsb_bits) bits.old.left) }
+{
+    Ok(SpsCoding {
+        blocks: blocks_of(bits)?,
+        scaling: scaling_of(alloc, bits, ext)?,
+        tools: tools_of(bits)?,
+        references: references_of(alloc, bits, lsb_bits)?,
+        sps_temporal_mvp_enabled_flag: u8_of(bits, 1)?,
+        strong_intra_smoothing_enabled_flag: u8_of(bits, 1)?,
+    })
+}
+
+#[tactic(auto, unfolding(crate::specs::Coding::coding))]
+pub(crate) fn put_coding(
+    out: &mut BitWriter,
+    v: &SpsCoding,
+    ext: bool,
+    lsb_bits: u8,
+) -> Result<(), AllocError>
+    requires width { lsb_bits ≤ 16 }
+    requires valid { Valid (coding ext lsb_bits) v.now }
+    ensures { OnOk result (out.new ≡ put (coding ext lsb_bits) v.now out.old) }
+{
+    put_blocks(out, &v.blocks)?;
+    put_scaling(out, &v.scaling, ext)?;
+    put_tools(out, &v.tools)?;
+    put_references(out, &v.references, lsb_bits)?;
+    put_u8(out, 1, v.sps_temporal_mvp_enabled_flag)?;
+    put_u8(out, 1, v.strong_intra_smoothing_enabled_flag)
+}

@@ -1,0 +1,39 @@
+//! Sequence parameter sets (H.265 7.3.2.2.1, F.7.3.2.2.1): a payload is read and written exactly.
+#![tactic(auto)]
+
+mod blocks;
+mod coding;
+mod extension;
+mod head;
+mod laws;
+mod ordering;
+mod payload;
+mod picture_format;
+mod pictures;
+mod references;
+mod rep_format;
+mod scaling;
+mod sps;
+mod tools;
+mod vui;
+
+pub use blocks::SpsBlocks;
+pub use coding::SpsCoding;
+pub use extension::SpsExtension;
+pub use head::SpsHead;
+pub use laws::sps_laws;
+pub use ordering::{SpsOrdering, SpsSubLayer};
+pub use payload::{read_sps, write_sps};
+pub use picture_format::SpsPictureFormat;
+pub use pictures::SpsPictures;
+pub use references::SpsReferences;
+pub use rep_format::SpsRepFormat;
+pub use scaling::SpsScaling;
+pub use sps::Sps;
+pub use tools::SpsTools;
+pub use vui::SpsVui;
+
+#[cfg(test)]
+mod part_tests;
+#[cfg(test)]
+mod tests;
