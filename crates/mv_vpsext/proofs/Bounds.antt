@@ -1,0 +1,69 @@
+-- The bounds that the arguments and the parts of an extension give.
+use Rattle.std.proofs.Common.{◌≡◌, ℕ, ◌+◌, ◌^◌, ◌<◌, ◌≤◌, ltb, eqb, Bool, true, false, List, [], get_or, length, Option, Some, None, Ok, refl, sym, subst, arith}
+use Rattle.std.proofs.lemmas.List.{get_or_past}
+use Rattle.std.proofs.lemmas.Bool.{ltb-false, ltb-true, eqb-false}
+use Rattle.mv_syntax.specs.Table.{when, Valid, read}
+use Rattle.mv_syntax.specs.Words.{◌otherwise◌}
+use Rattle.mv_syntax.proofs.TableLaws.{reads-read}
+use Rattle.mv_syntax.proofs.LoopLaws.{items-length, items-valid}
+use Rattle.mv_vpsext.specs.declared.dimensions.VpsLayer.{VpsLayer}
+use Rattle.mv_vpsext.specs.Args.{VpsArgsValue, AreVpsArgs, layer_set, layer_sets}
+use Rattle.mv_vpsext.specs.Dependencies.{VpsDependenciesValue, sub_layers_max, all_sub_layers_max, dependencies}
+use Rattle.mv_vpsext.specs.Profiles.{VpsProfilesValue, profiles}
+
+-- what holds of each item and of what is found beyond the last holds at each place
+pub at_each_place : {A : Type 0} (P : A → Type 0) (xs : List A) (d : A) (k : ℕ) → (k < length xs → P (get_or xs k d)) → P d → P (get_or xs k d)
+at_each_place P xs d k here beyond = go (ltb k (length xs)) refl
+  where
+    go : (b : Bool) → ltb k (length xs) ≡ b → P (get_or xs k d)
+    go true e = here (ltb-true k (length xs) e)
+    go false e = subst P (sym (get_or_past xs k d (ltb-false k (length xs) e))) beyond
+
+-- there are at most 1023 layer sets from 1 on, with at most 63 flags each
+pub sets_within : (args : VpsArgsValue) → AreVpsArgs args → length args.layer_id_included_flag ≤ 1023
+unfolding layer_sets
+sets_within args h =
+    let all : length args.layer_id_included_flag ≡ args.vps_num_layer_sets_minus1 =
+    items-length (λ i. layer_set args.vps_max_layer_id) 1 args.vps_num_layer_sets_minus1 args.layer_id_included_flag h.each_set in
+    omega (arith, h.sets)
+
+set_within : (m : ℕ) (flags : List ℕ) → m ≤ 62 → Valid (layer_set m) flags → length flags ≤ 63
+unfolding layer_set
+set_within m flags low h = let all : length flags ≡ m + 1 = items-length _ 0 (m + 1) flags h in omega arith
+
+pub flags_within : (args : VpsArgsValue) → AreVpsArgs args → (k : ℕ) → length (get_or args.layer_id_included_flag k []) ≤ 63
+unfolding layer_sets
+flags_within args h k =
+    at_each_place (λ flags. length flags ≤ 63) args.layer_id_included_flag [] k
+    (λ within. set_within args.vps_max_layer_id _ h.layer_ids
+    (items-valid (λ i. layer_set args.vps_max_layer_id) 1 args.vps_num_layer_sets_minus1 args.layer_id_included_flag k (1 + k) [] h.each_set within refl))
+    (omega arith)
+
+-- each layer has at most 7 sub-layers
+not_seven : (v : ℕ) → v < 2 ^ 3 → eqb v 7 ≡ false → v ≤ 6
+not_seven v h e = let other : v ≡ 7 → ⊥ = eqb-false v 7 e in omega arith
+
+coded_within : (n : ℕ) (c : Bool) (coded : Option (List ℕ)) → Valid (when c (all_sub_layers_max n)) coded → (k : ℕ) → get_or (coded otherwise []) k 0 ≤ 6
+unfolding all_sub_layers_max sub_layers_max
+coded_within n c None h k = omega arith
+coded_within n c (Some coded) h k =
+    at_each_place (λ v. v ≤ 6) coded 0 k
+    (λ within. let here = items-valid sub_layers_max 0 (n + 1) coded k (0 + k) 0 h.1 within refl in not_seven (get_or coded k 0) here.0 here.1)
+    (omega arith)
+
+pub sub_layers_of_valid : (m : ℕ) (layers : List VpsLayer) (sets : List (List ℕ)) (v : VpsDependenciesValue) → Valid (dependencies m layers sets) v
+    → (k : ℕ) → get_or (v.sub_layers_vps_max_minus1 otherwise []) k 0 ≤ 6
+unfolding dependencies
+sub_layers_of_valid m layers sets v h k = coded_within m _ v.sub_layers_vps_max_minus1 h.0.1.1.1.0 k
+
+pub sub_layers_of_read : (m : ℕ) (layers : List VpsLayer) (sets : List (List ℕ)) (b : List Bool) (v : VpsDependenciesValue) (rest : List Bool)
+    → read (dependencies m layers sets) b ≡ Ok (v, rest) → (k : ℕ) → get_or (v.sub_layers_vps_max_minus1 otherwise []) k 0 ≤ 6
+sub_layers_of_read m layers sets b v rest e k = sub_layers_of_valid m layers sets v (reads-read (dependencies m layers sets) b v rest e).0 k
+
+-- there are at most 64 profile_tier_level
+pub profiles_of_valid : (s : ℕ) (v : VpsProfilesValue) → Valid (profiles s) v → v.vps_num_profile_tier_level_minus1 ≤ 63
+unfolding profiles
+profiles_of_valid s v h = ltb-false 63 v.vps_num_profile_tier_level_minus1 h.0.1.0.1
+
+pub profiles_of_read : (s : ℕ) (b : List Bool) (v : VpsProfilesValue) (rest : List Bool) → read (profiles s) b ≡ Ok (v, rest) → v.vps_num_profile_tier_level_minus1 ≤ 63
+profiles_of_read s b v rest e = profiles_of_valid s v (reads-read (profiles s) b v rest e).0

@@ -1,0 +1,11 @@
+pub mod Sharing
+pub mod Ranges
+pub mod AnyLaws
+pub mod DimensionLaws
+pub mod ClosureLaws
+pub mod Reordering
+pub mod Bounds
+pub mod Collecting
+pub mod ReachLaws
+pub mod SetLayerLaws
+pub mod Extensions

@@ -1,0 +1,16 @@
+use Rattle.std.proofs.Common.{sym, ◌∙◌, arith}
+use Rattle.mv_vpsext.specs.LayerSets.{has_unknown}
+use Rattle.mv_vpsext.proofs.AnyLaws.{none_more_of, some_of, none_of}
+use Rattle.mv_vpsext.proofs.added_layer_sets.any_has_unknown.Goals as goal
+
+pub returns-then-has_unknown : goal.returns-then-has_unknown
+returns-then-has_unknown c =
+    sym (some_of (has_unknown (record { vps_max_layers_minus1 = c.args.vps_max_layers_minus1; layers = c.args.layers.now; direct_dependency_flag = c.args.flags.now })) c.args.sets.now c.loop-set.set-index _ _ c.loop-set-test.true c.set-item.is (sym c.has_unknown.ensures ∙ c.if-has_unknown.true))
+
+pub loop-set-preserved : goal.loop-set-preserved
+loop-set-preserved c =
+    none_more_of (has_unknown (record { vps_max_layers_minus1 = c.args.vps_max_layers_minus1; layers = c.args.layers.now; direct_dependency_flag = c.args.flags.now })) c.args.sets.now c.loop-set.set-index _ _ c.loop-set-test.true c.set-item.is c.loop-set.invariant (sym c.has_unknown.ensures ∙ c.if-has_unknown.false)
+
+pub returns : goal.returns
+returns c =
+    sym (none_of (has_unknown (record { vps_max_layers_minus1 = c.args.vps_max_layers_minus1; layers = c.args.layers.now; direct_dependency_flag = c.args.flags.now })) c.args.sets.now c.loop-set.set-index (omega (arith, c.loop-set-test.false)) c.loop-set.invariant)

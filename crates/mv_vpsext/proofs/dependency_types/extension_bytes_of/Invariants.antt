@@ -1,0 +1,11 @@
+use Rattle.std.proofs.Common.{◌≡◌}
+use Rattle.mv_syntax.specs.Table.{read}
+use Rattle.mv_syntax.specs.Loops.{rest_of_items}
+use Rattle.mv_vpsext.specs.DependencyTypes.{extension_byte, extension_bytes}
+use Rattle.mv_vpsext.proofs.dependency_types.extension_bytes_of.Given as goal
+
+abbrev pub invariant-loop-i : goal.invariant-loop-i
+invariant-loop-i l =
+    (read (extension_bytes l.vps_non_vui_extension_length) l.fn.bits.left
+    ≡ rest_of_items (extension_byte) l.i l.end l.all.items l.bits.left)
+    × (l.bits.total ≡ l.fn.bits.total)

@@ -1,0 +1,23 @@
+use Rattle.std.proofs.Common.{◌≡◌, ◌++◌, [], ◌∷◌, List, ℕ, refl, sym, ap₂, ◌∙◌, subst, lit<, lit≤}
+use Rattle.mv_syntax.specs.Loops.{items}
+use Rattle.mv_vpsext.specs.Args.{VpsArgsValue, AreVpsArgs, included_flag, layer_set, layer_sets}
+use Rattle.mv_vpsext.proofs.tests.two_views.Goals as goal
+
+args : List (List ℕ) → VpsArgsValue
+args sets = record { vps_max_layers_minus1 = 1; vps_max_sub_layers_minus1 = 0; vps_max_layer_id = 1; vps_num_layer_sets_minus1 = 1; layer_id_included_flag = sets }
+
+are_args : AreVpsArgs (args ((1 ∷ 1 ∷ []) ∷ []))
+unfolding args layer_sets layer_set included_flag items
+are_args = record {
+  layers = lit≤ tt;
+  sub_layers = lit≤ tt;
+  layer_ids = lit≤ tt;
+  sets = lit≤ tt;
+  each_set = (refl, ((refl, (lit< tt, (lit< tt, tt))), tt));
+}
+
+pub returns : goal.returns
+unfolding args
+returns c =
+    let e : c.push.new.self.items ≡ (1 ∷ 1 ∷ []) ∷ [] = c.in_ok-push.ensures.items ∙ ap₂ (λ before last. before ++ last ∷ []) c.new-sets.ensures.items c.in_ok-layer_set.ensures in
+    subst (λ sets. AreVpsArgs (args sets)) (sym e) are_args

@@ -1,0 +1,62 @@
+-- vps_extension (F.7.3.2.1.1), last part, up to vps_vui_present_flag: the types of references and bytes of other extensions.
+use Rattle.std.specs.Prelude.{ℕ, ◌+◌, not, List, Option, refl}
+use Rattle.mv_syntax.specs.Table.{Table, ◌>>=◌, u, ue, named, when, shaped}
+use Rattle.mv_syntax.specs.Words.{◌▸◌, ◌>>◌, ◌!◌∶◌, over, is_set}
+use Rattle.mv_syntax.specs.Loops.{items}
+use Rattle.mv_vpsext.specs.Layers.{depends}
+
+-- A type of reference is at most 2, or else breaks DependencyType (25). for i = 1 to vps_max_layers_minus1, for j = 0 to i-1,
+-- where layer i refers directly to layer j
+unfoldable pub dependency_type : ℕ → List (List ℕ) → ℕ → ℕ → Table (Option ℕ)
+dependency_type width flags i j = named "direct_dependency_type" (when (depends flags i j) (u width ! 25 ∶ over 2))
+
+unfoldable pub layer_dependency_types : ℕ → List (List ℕ) → ℕ → Table (List (Option ℕ))
+layer_dependency_types width flags i = items 0 i (dependency_type width flags i)
+
+unfoldable pub dependency_types : ℕ → ℕ → List (List ℕ) → Table (List (List (Option ℕ)))
+dependency_types vps_max_layers_minus1 width flags = items 1 vps_max_layers_minus1 (layer_dependency_types width flags)
+
+-- for i = 1 to vps_non_vui_extension_length
+unfoldable pub extension_byte : ℕ → Table ℕ
+extension_byte i = named "vps_non_vui_extension_data_byte" (u 8)
+
+unfoldable pub extension_bytes : ℕ → Table (List ℕ)
+extension_bytes vps_non_vui_extension_length = items 1 vps_non_vui_extension_length extension_byte
+
+pub record VpsDependencyTypesValue : Type 0 where
+  pub direct_dep_type_len_minus2 : ℕ
+  pub direct_dependency_all_layers_flag : ℕ
+  pub direct_dependency_all_layers_type : Option ℕ
+  pub direct_dependency_type : Option (List (List (Option ℕ)))
+  pub vps_non_vui_extension_length : ℕ
+  pub vps_non_vui_extension_data_byte : List ℕ
+  pub vps_vui_present_flag : ℕ
+
+unfoldable pub types : ℕ → List (List ℕ) → Table VpsDependencyTypesValue
+types vps_max_layers_minus1 flags = shaped
+    (λ c. record {
+      direct_dep_type_len_minus2 = c.0;
+      direct_dependency_all_layers_flag = c.1.0;
+      direct_dependency_all_layers_type = c.1.1.0;
+      direct_dependency_type = c.1.1.1.0;
+      vps_non_vui_extension_length = c.1.1.1.1.0;
+      vps_non_vui_extension_data_byte = c.1.1.1.1.1.0;
+      vps_vui_present_flag = c.1.1.1.1.1.1;
+    })
+    (λ v.
+    v.direct_dep_type_len_minus2
+    ▸ v.direct_dependency_all_layers_flag
+    ▸ v.direct_dependency_all_layers_type
+    ▸ v.direct_dependency_type
+    ▸ v.vps_non_vui_extension_length
+    ▸ v.vps_non_vui_extension_data_byte
+    ▸ v.vps_vui_present_flag)
+    (λ _. refl)
+    do
+      direct_dep_type_len_minus2 ← named "direct_dep_type_len_minus2" (ue ! 26 ∶ over 30)
+      direct_dependency_all_layers_flag ← named "direct_dependency_all_layers_flag" (u 1)
+      named "direct_dependency_all_layers_type" (when (is_set direct_dependency_all_layers_flag) (u (direct_dep_type_len_minus2 + 2) ! 25 ∶ over 2))
+      when (not (is_set direct_dependency_all_layers_flag)) (dependency_types vps_max_layers_minus1 (direct_dep_type_len_minus2 + 2) flags)
+      vps_non_vui_extension_length ← named "vps_non_vui_extension_length" (ue ! 26 ∶ over 4096)
+      extension_bytes vps_non_vui_extension_length
+      named "vps_vui_present_flag" (u 1)

@@ -1,0 +1,86 @@
+-- vps_extension (F.7.3.2.1.1), fourth part, up to alt_output_layer_flag: the output layer sets.
+use Rattle.std.specs.Prelude.{ℕ, ◌+◌, ◌-◌, Bool, ◌&&◌, ◌||◌, List, get_or, length, Option, refl, nat_eq, nat_le}
+use Rattle.mv_syntax.specs.Table.{Table, ◌>>=◌, u, ue, named, when, shaped}
+use Rattle.mv_syntax.specs.Words.{◌▸◌, ◌>>◌, ◌!◌∶◌, over, is, is_set, or_zero}
+use Rattle.mv_syntax.specs.Loops.{items}
+use Rattle.mv_fields.specs.Widths.{clog2}
+use Rattle.mv_vpsext.specs.LayerInfos.{LayerInfoValue}
+use Rattle.mv_vpsext.specs.OutputLayers.{ols_layers, ols_outputs, is_necessary, one_output_refers}
+
+-- for each layer j of the set
+unfoldable pub output_layer_flag : ℕ → Table ℕ
+output_layer_flag j = named "output_layer_flag" (u 1)
+
+unfoldable pub output_layer_flags : ℕ → Table (List ℕ)
+output_layer_flags num_layers = items 0 num_layers output_layer_flag
+
+-- for each layer j of the set, where it is necessary and there are several profile_tier_level
+unfoldable pub profile_tier_level_idx : List LayerInfoValue → ℕ → List ℕ → List ℕ → ℕ → Table (Option ℕ)
+profile_tier_level_idx infos vps_num_profile_tier_level_minus1 outputs layers j =
+    named "profile_tier_level_idx" (when (is_necessary infos outputs (get_or layers j 0) && over 0 vps_num_profile_tier_level_minus1)
+    (u (clog2 (vps_num_profile_tier_level_minus1 + 1))))
+
+unfoldable pub profile_tier_level_idxs : List LayerInfoValue → ℕ → List ℕ → List ℕ → Table (List (Option ℕ))
+profile_tier_level_idxs infos vps_num_profile_tier_level_minus1 outputs layers =
+    items 0 (length layers) (profile_tier_level_idx infos vps_num_profile_tier_level_minus1 outputs layers)
+
+pub record OutputLayerSetValue : Type 0 where
+  pub layer_set_idx_for_ols_minus1 : Option ℕ
+  pub output_layer_flag : Option (List ℕ)
+  pub profile_tier_level_idx : List (Option ℕ)
+  pub alt_output_layer_flag : Option ℕ
+
+-- Output layer set i. The layer set of one behind NumLayerSets is at most the last (26); no alternative outputs (AltOutput, 20).
+unfoldable pub output_layer_set : List LayerInfoValue → List (List ℕ) → ℕ → ℕ → ℕ → Table OutputLayerSetValue
+output_layer_set infos sets vps_num_profile_tier_level_minus1 idc i = shaped
+    (λ c. record {
+      layer_set_idx_for_ols_minus1 = c.0;
+      output_layer_flag = c.1.0;
+      profile_tier_level_idx = c.1.1.0;
+      alt_output_layer_flag = c.1.1.1;
+    })
+    (λ v.
+    v.layer_set_idx_for_ols_minus1
+    ▸ v.output_layer_flag
+    ▸ v.profile_tier_level_idx
+    ▸ v.alt_output_layer_flag)
+    (λ _. refl)
+    let num_layer_sets : ℕ = length sets + 1 in do
+      layer_set_idx_for_ols_minus1 ← named "layer_set_idx_for_ols_minus1" (when (over 2 num_layer_sets && nat_le num_layer_sets i)
+          (u (clog2 (num_layer_sets - 1)) ! 26 ∶ over (num_layer_sets - 2)))
+      let layers : List ℕ = ols_layers sets i layer_set_idx_for_ols_minus1 in do
+        flags ← when (nat_le num_layer_sets i || nat_eq idc 2) (output_layer_flags (length layers))
+        profile_tier_level_idxs infos vps_num_profile_tier_level_minus1 (ols_outputs layers flags idc) layers
+        named "alt_output_layer_flag" (when (one_output_refers infos (ols_outputs layers flags idc)) (u 1 ! 20 ∶ is_set))
+
+-- for i = 1 to NumOutputLayerSets - 1
+unfoldable pub output_layer_sets : List LayerInfoValue → List (List ℕ) → ℕ → ℕ → ℕ → Table (List OutputLayerSetValue)
+output_layer_sets infos sets vps_num_profile_tier_level_minus1 num_add_olss idc =
+    items 1 (length sets + num_add_olss) (output_layer_set infos sets vps_num_profile_tier_level_minus1 idc)
+
+pub record VpsOutputSetsValue : Type 0 where
+  pub num_add_olss : Option ℕ
+  pub default_output_layer_idc : Option ℕ
+  pub output_layer_sets : List OutputLayerSetValue
+
+-- There are over 64 output layer sets with so many more than the layer sets: past the limit, 26 (this project's profile).
+abbrev pub past_output_sets : ℕ → ℕ → Bool
+past_output_sets num_layer_sets num_add_olss = over 64 (num_layer_sets + num_add_olss)
+
+-- default_output_layer_idc 3 is reserved: ReservedOutput, 24 (this project's profile).
+unfoldable pub output_sets : List LayerInfoValue → List (List ℕ) → ℕ → Table VpsOutputSetsValue
+output_sets infos sets vps_num_profile_tier_level_minus1 = shaped
+    (λ c. record {
+      num_add_olss = c.0;
+      default_output_layer_idc = c.1.0;
+      output_layer_sets = c.1.1;
+    })
+    (λ v.
+    v.num_add_olss
+    ▸ v.default_output_layer_idc
+    ▸ v.output_layer_sets)
+    (λ _. refl)
+    do
+      num_add_olss ← named "num_add_olss" (when (over 1 (length sets + 1)) (ue ! 26 ∶ past_output_sets (length sets + 1)))
+      default_output_layer_idc ← named "default_output_layer_idc" (when (over 1 (length sets + 1)) (u 2 ! 24 ∶ is 3))
+      output_layer_sets infos sets vps_num_profile_tier_level_minus1 (or_zero num_add_olss) (or_zero default_output_layer_idc)

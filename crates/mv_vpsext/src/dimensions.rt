@@ -1,0 +1,518 @@
+ghost use Rattle.std.specs.Prelude.{◌≡◌, ◌≢◌, ◌≤◌, ◌+◌, get_or, length, nat_eq, OnOk, IfOk, option_map};
+ghost use Rattle.std.specs.List.{list_any};
+ghost use Rattle.mv_vpsext.specs.declared.dimensions.VpsLayer.{VpsLayer as Layer};
+ghost use Rattle.mv_syntax.specs.Table.{u, when, Valid, read, put};
+ghost use Rattle.mv_syntax.specs.Words.{◌!◌∶◌, over, is_set, or_zero};
+ghost use Rattle.mv_syntax.specs.Answers.{Fills};
+ghost use Rattle.mv_io.specs.Rule.{rule_number};
+ghost use Rattle.mv_vpsext.specs.Faults.{means, syntax_rule};
+ghost use Rattle.mv_vpsext.specs.Dimensions.{mask_rule, mask_breaks, mask_flag, mask_flags, no_layer_id, same_view, vps_layer, vps_layers, view_id_val, view_id_vals, lacks_view_id, dimensions};
+
+use crate::fault::ExtFault;
+use crate::fields::unset_flag;
+use crate::layers::nuh_layer_id;
+use crate::shared::{profile_tier_if, put_profile_tier_if};
+use mv_bits::{BitReader, BitWriter};
+use mv_common::{ProfileTier, put_u8, put_u8_if, put_u16, u8_if, u8_of, u16_of};
+use mv_io::Rule;
+use std::alloc::{AllocError, Global};
+use std::marker::Model;
+
+/// A layer from index 1 on: its nuh_layer_id, where that is coded, and its view order index.
+#[derive(Clone, Copy, Debug, PartialEq, Eq)]
+pub struct VpsLayer {
+    pub layer_id_in_nuh: Option<u8>,
+    pub dimension_id: u8,
+}
+
+/// The profile of layer 0, the scalability dimensions, the layers and the view identifiers.
+#[derive(Debug, Drop)]
+pub struct VpsDimensions {
+    pub profile_tier_level: Option<ProfileTier>,
+    pub splitting_flag: u8,
+    pub scalability_mask_flag: Vec<u8>,
+    pub dimension_id_len_minus1: Option<u8>,
+    pub vps_nuh_layer_id_present_flag: u8,
+    /// The layers from index 1 on.
+    pub layers: Vec<VpsLayer>,
+    pub view_id_len: u8,
+    /// By view order index.
+    pub view_id_val: Option<Vec<u16>>,
+}
+
+impl Model for VpsDimensions {
+    ghost use Rattle.std.specs.Prelude.{option_map};
+    ghost use Rattle.mv_vpsext.specs.Dimensions.{VpsDimensionsValue};
+
+    ghost Value = { VpsDimensionsValue };
+
+    ghost view = { λ d. record {
+      profile_tier_level = d.profile_tier_level;
+      splitting_flag = d.splitting_flag;
+      scalability_mask_flag = d.scalability_mask_flag.items;
+      dimension_id_len_minus1 = d.dimension_id_len_minus1;
+      vps_nuh_layer_id_present_flag = d.vps_nuh_layer_id_present_flag;
+      layers = d.layers.items;
+      view_id_len = d.view_id_len;
+      view_id_val = option_map (λ v. v.items) d.view_id_val;
+    } };
+}
+
+// The rule that the scalability mask flag of this index can break.
+fn mask_rule(i: u8) -> Rule
+    ensures number { rule_number result ≡ mask_rule i }
+    ensures no_syntax_rule { rule_number result ≢ syntax_rule }
+{
+    match i {
+        0 => Rule::Depth,
+        1 => Rule::NoViewDimension,
+        2 => Rule::Spatial,
+        3 => Rule::Auxiliary,
+        _ => Rule::ReservedDimension,
+    }
+}
+
+fn mask_breaks(vps_max_layers_minus1: u8, i: u8, flag: u8) -> bool
+    ensures { result ≡ mask_breaks vps_max_layers_minus1 i flag }
+{
+    if i == 1 {
+        return vps_max_layers_minus1 > 0 && flag != 1;
+    }
+    flag == 1
+}
+
+#[tactic(auto, unfolding(crate::specs::Dimensions::mask_flag))]
+fn mask_flag_of(bits: &mut BitReader, vps_max_layers_minus1: u8, i: u8) -> Result<u8, ExtFault>
+    ensures { Fills (λ v. v) means bits.old bits.new result (read (mask_flag vps_max_layers_minus1 i) bits.old.left) }
+{
+    let flag = u8_of(bits, 1)?;
+    if mask_breaks(vps_max_layers_minus1, i, flag) {
+        return Err(ExtFault::Breaks(mask_rule(i)));
+    }
+    Ok(flag)
+}
+
+#[tactic(auto, using(mv_syntax::proofs::LoopLaws::item_steps), unfolding(crate::specs::Dimensions::mask_flags))]
+fn mask_flags_of(
+    alloc: Global,
+    bits: &mut BitReader,
+    vps_max_layers_minus1: u8,
+) -> Result<Vec<u8>, ExtFault>
+    ensures { Fills (λ v. v.items) means bits.old bits.new result (read (mask_flags vps_max_layers_minus1) bits.old.left) }
+{
+    let mut all = Vec::new(alloc);
+    for i in 0..16 {
+        all.push(mask_flag_of(bits, vps_max_layers_minus1, i)?)?;
+    }
+    Ok(all)
+}
+
+// Whether the flags say that the layers are views.
+fn has_views(flags: &[u8]) -> bool
+    ensures { result ≡ is_set (get_or flags.now 1 0) }
+{
+    match flags.get(1) {
+        Some(flag) => *flag == 1,
+        None => false,
+    }
+}
+
+// The next field u(3), where it is present.
+#[tactic(auto, using(crate::proofs::Sharing::small))]
+fn id_len_if(bits: &mut BitReader, present: bool) -> Result<Option<u8>, ExtFault>
+    ensures reads { Fills (λ v. v) means bits.old bits.new result (read (when present (u 3)) bits.old.left) }
+    ensures small { IfOk result (λ len. or_zero len ≤ 7) }
+{
+    if !present {
+        return Ok(None);
+    }
+    Ok(Some(u8_of(bits, 3)?))
+}
+
+// The width of dimension_id, where its length less 1 is coded so; 1 where it isn't coded.
+fn id_width(dimension_id_len_minus1: Option<u8>) -> u8
+    requires { or_zero dimension_id_len_minus1 ≤ 7 }
+    ensures { result ≡ or_zero dimension_id_len_minus1 + 1 }
+{
+    match dimension_id_len_minus1 {
+        Some(len) => len + 1,
+        None => 1,
+    }
+}
+
+// The next field layer_id_in_nuh, behind a layer of the nuh_layer_id `before`, where it is present.
+fn layer_id_if(bits: &mut BitReader, present: bool, before: u8) -> Result<Option<u8>, ExtFault>
+    ensures { Fills (λ v. v) means bits.old bits.new result (read (when present (u 6 ! 26 ∶ no_layer_id before)) bits.old.left) }
+{
+    if !present {
+        return Ok(None);
+    }
+    let id = u8_of(bits, 6)?;
+    if id == 63 || id <= before {
+        return Err(ExtFault::Breaks(Rule::VpsLimit));
+    }
+    Ok(Some(id))
+}
+
+// Whether a layer has this view order index.
+fn has_view(layer: &VpsLayer, id: u8) -> bool
+    ensures { result ≡ nat_eq layer.now.dimension_id id }
+{
+    layer.dimension_id == id
+}
+
+fn any_has_view(layers: &[VpsLayer], id: u8) -> bool
+    ensures { result ≡ list_any (λ (layer : Layer). nat_eq layer.dimension_id id) layers.now }
+{
+    for layer in layers {
+        if has_view(layer, id) {
+            return true;
+        }
+    }
+    false
+}
+
+// Whether a view order index is that of an earlier layer.
+fn same_view(before: &[VpsLayer], id: u8) -> bool
+    ensures { result ≡ same_view before.now id }
+{
+    if id == 0 {
+        return true;
+    }
+    any_has_view(before, id)
+}
+
+// The next field dimension_id, of this width, behind these layers.
+fn dimension_id_of(bits: &mut BitReader, width: u8, before: &[VpsLayer]) -> Result<u8, ExtFault>
+    requires { width ≤ 8 }
+    ensures { Fills (λ v. v) means bits.old bits.new result (read (u width ! 18 ∶ same_view before.now) bits.old.left) }
+{
+    let id = u8_of(bits, width)?;
+    if same_view(before, id) {
+        return Err(ExtFault::Breaks(Rule::SameView));
+    }
+    Ok(id)
+}
+
+#[tactic(auto, unfolding(crate::specs::Dimensions::vps_layer))]
+fn vps_layer_of(
+    bits: &mut BitReader,
+    present: bool,
+    width: u8,
+    i: u8,
+    before: &[VpsLayer],
+) -> Result<VpsLayer, ExtFault>
+    requires width { width ≤ 8 }
+    requires few { length before.now ≤ 62 }
+    ensures { Fills (λ v. v) means bits.old bits.new result (read (vps_layer present width i before.now) bits.old.left) }
+{
+    let layer_id_in_nuh = layer_id_if(bits, present, nuh_layer_id(before, before.len()))?;
+    let dimension_id = dimension_id_of(bits, width, before)?;
+    Ok(VpsLayer {
+        layer_id_in_nuh,
+        dimension_id,
+    })
+}
+
+#[tactic(auto, using(mv_syntax::proofs::LoopLaws::item_steps), unfolding(crate::specs::Dimensions::vps_layers))]
+fn vps_layers_of(
+    alloc: Global,
+    bits: &mut BitReader,
+    vps_max_layers_minus1: u8,
+    present: bool,
+    width: u8,
+) -> Result<Vec<VpsLayer>, ExtFault>
+    requires layers { vps_max_layers_minus1 ≤ 62 }
+    requires width { width ≤ 8 }
+    ensures { Fills (λ v. v.items) means bits.old bits.new result (read (vps_layers vps_max_layers_minus1 present width) bits.old.left) }
+{
+    let end = vps_max_layers_minus1 + 1;
+    let mut all = Vec::new(alloc);
+    for i in 1..end {
+        let layer = vps_layer_of(bits, present, width, i, &all)?;
+        all.push(layer)?;
+    }
+    Ok(all)
+}
+
+// Whether a layer has a view order index above the greatest layer index.
+fn beyond_views(layer: &VpsLayer, vps_max_layers_minus1: u8) -> bool
+    ensures { result ≡ over vps_max_layers_minus1 layer.now.dimension_id }
+{
+    layer.dimension_id > vps_max_layers_minus1
+}
+
+fn any_beyond_views(layers: &[VpsLayer], vps_max_layers_minus1: u8) -> bool
+    ensures { result ≡ list_any (λ (layer : Layer). over vps_max_layers_minus1 layer.dimension_id) layers.now }
+{
+    for layer in layers {
+        if beyond_views(layer, vps_max_layers_minus1) {
+            return true;
+        }
+    }
+    false
+}
+
+// Whether view identifiers are coded and a view order index has none.
+fn lacks_view_id(vps_max_layers_minus1: u8, layers: &[VpsLayer], view_id_len: u8) -> bool
+    ensures { result ≡ lacks_view_id vps_max_layers_minus1 layers.now view_id_len }
+{
+    if view_id_len == 0 {
+        return false;
+    }
+    any_beyond_views(layers, vps_max_layers_minus1)
+}
+
+#[tactic(auto, using(crate::proofs::Sharing::small))]
+fn view_id_len_of(
+    bits: &mut BitReader,
+    vps_max_layers_minus1: u8,
+    layers: &[VpsLayer],
+) -> Result<u8, ExtFault>
+    ensures small { IfOk result (λ len. len ≤ 15) }
+    ensures reads { Fills (λ v. v) means bits.old bits.new result (read (u 4 ! 26 ∶ lacks_view_id vps_max_layers_minus1 layers.now) bits.old.left) }
+{
+    let view_id_len = u8_of(bits, 4)?;
+    if lacks_view_id(vps_max_layers_minus1, layers, view_id_len) {
+        return Err(ExtFault::Breaks(Rule::VpsLimit));
+    }
+    Ok(view_id_len)
+}
+
+#[tactic(auto, unfolding(crate::specs::Dimensions::view_id_val))]
+fn view_id_val_of(bits: &mut BitReader, view_id_len: u8, i: u8) -> Result<u16, ExtFault>
+    requires { view_id_len ≤ 15 }
+    ensures { Fills (λ v. v) means bits.old bits.new result (read (view_id_val view_id_len i) bits.old.left) }
+{
+    Ok(u16_of(bits, view_id_len)?)
+}
+
+#[tactic(auto, using(mv_syntax::proofs::LoopLaws::item_steps), unfolding(crate::specs::Dimensions::view_id_vals))]
+fn view_id_vals_of(
+    alloc: Global,
+    bits: &mut BitReader,
+    vps_max_layers_minus1: u8,
+    view_id_len: u8,
+) -> Result<Vec<u16>, ExtFault>
+    requires layers { vps_max_layers_minus1 ≤ 62 }
+    requires width { view_id_len ≤ 15 }
+    ensures { Fills (λ v. v.items) means bits.old bits.new result (read (view_id_vals vps_max_layers_minus1 view_id_len) bits.old.left) }
+{
+    let end = vps_max_layers_minus1 + 1;
+    let mut all = Vec::new(alloc);
+    for i in 0..end {
+        all.push(view_id_val_of(bits, view_id_len, i)?)?;
+    }
+    Ok(all)
+}
+
+fn view_id_vals_if(
+    alloc: Global,
+    bits: &mut BitReader,
+    present: bool,
+    vps_max_layers_minus1: u8,
+    view_id_len: u8,
+) -> Result<Option<Vec<u16>>, ExtFault>
+    requires layers { vps_max_layers_minus1 ≤ 62 }
+    requires width { view_id_len ≤ 15 }
+    ensures { Fills (λ o. option_map (λ v. v.items) o) means bits.old bits.new result (read (when present (view_id_vals vps_max_layers_minus1 view_id_len)) bits.old.left) }
+{
+    if !present {
+        return Ok(None);
+    }
+    Ok(Some(view_id_vals_of(alloc, bits, vps_max_layers_minus1, view_id_len)?))
+}
+
+#[tactic(auto, unfolding(crate::specs::Dimensions::dimensions))]
+pub(crate) fn dimensions_of(
+    alloc: Global,
+    bits: &mut BitReader,
+    vps_max_layers_minus1: u8,
+    vps_max_sub_layers_minus1: u8,
+) -> Result<VpsDimensions, ExtFault>
+    requires layers { vps_max_layers_minus1 ≤ 62 }
+    requires subs { vps_max_sub_layers_minus1 ≤ 6 }
+    ensures { Fills (λ v. v) means bits.old bits.new result (read (dimensions vps_max_layers_minus1 vps_max_sub_layers_minus1) bits.old.left) }
+{
+    let several = vps_max_layers_minus1 > 0;
+    let profile_tier_level = profile_tier_if(alloc, bits, several, vps_max_sub_layers_minus1)?;
+    let splitting_flag = unset_flag(bits, Rule::Splitting)?;
+    let scalability_mask_flag = mask_flags_of(alloc, bits, vps_max_layers_minus1)?;
+    let views = has_views(&scalability_mask_flag);
+    let dimension_id_len_minus1 = id_len_if(bits, views)?;
+    let vps_nuh_layer_id_present_flag = u8_of(bits, 1)?;
+    let layers = vps_layers_of(
+        alloc,
+        bits,
+        vps_max_layers_minus1,
+        vps_nuh_layer_id_present_flag == 1,
+        dimension_id_len_minus1.unwrap_or(0) + 1,
+    )?;
+    let view_id_len = view_id_len_of(bits, vps_max_layers_minus1, &layers)?;
+    let view_id_val = view_id_vals_if(
+        alloc,
+        bits,
+        view_id_len > 0,
+        vps_max_layers_minus1,
+        view_id_len,
+    )?;
+    Ok(VpsDimensions {
+        profile_tier_level,
+        splitting_flag,
+        scalability_mask_flag,
+        dimension_id_len_minus1,
+        vps_nuh_layer_id_present_flag,
+        layers,
+        view_id_len,
+        view_id_val,
+    })
+}
+
+#[tactic(auto, unfolding(crate::specs::Dimensions::mask_flag))]
+fn put_mask_flag(
+    out: &mut BitWriter,
+    vps_max_layers_minus1: u8,
+    i: usize,
+    flag: u8,
+) -> Result<(), AllocError>
+    requires { Valid (mask_flag vps_max_layers_minus1 i) flag }
+    ensures { OnOk result (out.new ≡ put (mask_flag vps_max_layers_minus1 i) flag out.old) }
+{
+    put_u8(out, 1, flag)
+}
+
+#[tactic(auto, using(mv_syntax::proofs::LoopLaws::put_item_steps), unfolding(crate::specs::Dimensions::mask_flags))]
+fn put_mask_flags(
+    out: &mut BitWriter,
+    all: &[u8],
+    vps_max_layers_minus1: u8,
+) -> Result<(), AllocError>
+    requires { Valid (mask_flags vps_max_layers_minus1) all.now }
+    ensures { OnOk result (out.new ≡ put (mask_flags vps_max_layers_minus1) all.now out.old) }
+{
+    for i in 0..all.len() {
+        put_mask_flag(out, vps_max_layers_minus1, i, all[i])?;
+    }
+    Ok(())
+}
+
+#[tactic(auto, unfolding(crate::specs::Dimensions::view_id_val))]
+fn put_view_id_val(
+    out: &mut BitWriter,
+    view_id_len: u8,
+    i: usize,
+    field: u16,
+) -> Result<(), AllocError>
+    requires width { view_id_len ≤ 15 }
+    requires valid { Valid (view_id_val view_id_len i) field }
+    ensures { OnOk result (out.new ≡ put (view_id_val view_id_len i) field out.old) }
+{
+    put_u16(out, view_id_len, field)
+}
+
+#[tactic(auto, using(mv_syntax::proofs::LoopLaws::put_item_steps), unfolding(crate::specs::Dimensions::view_id_vals))]
+fn put_view_id_vals(
+    out: &mut BitWriter,
+    all: &[u16],
+    vps_max_layers_minus1: u8,
+    view_id_len: u8,
+) -> Result<(), AllocError>
+    requires width { view_id_len ≤ 15 }
+    requires valid { Valid (view_id_vals vps_max_layers_minus1 view_id_len) all.now }
+    ensures { OnOk result (out.new ≡ put (view_id_vals vps_max_layers_minus1 view_id_len) all.now out.old) }
+{
+    for i in 0..all.len() {
+        put_view_id_val(out, view_id_len, i, all[i])?;
+    }
+    Ok(())
+}
+
+fn put_view_id_vals_if(
+    out: &mut BitWriter,
+    present: bool,
+    all: &Option<Vec<u16>>,
+    vps_max_layers_minus1: u8,
+    view_id_len: u8,
+) -> Result<(), AllocError>
+    requires width { view_id_len ≤ 15 }
+    requires valid { Valid (when present (view_id_vals vps_max_layers_minus1 view_id_len)) (option_map (λ v. v.items) all.now) }
+    ensures { OnOk result (out.new ≡ put (when present (view_id_vals vps_max_layers_minus1 view_id_len)) (option_map (λ v. v.items) all.now) out.old) }
+{
+    match all {
+        Some(all) => put_view_id_vals(out, all, vps_max_layers_minus1, view_id_len),
+        None => Ok(()),
+    }
+}
+
+#[tactic(auto, unfolding(crate::specs::Dimensions::vps_layer))]
+fn put_vps_layer(
+    out: &mut BitWriter,
+    v: &VpsLayer,
+    present: bool,
+    width: u8,
+    i: usize,
+    before: &[VpsLayer],
+) -> Result<(), AllocError>
+    requires width { width ≤ 8 }
+    requires valid { Valid (vps_layer present width i before.now) v.now }
+    ensures { OnOk result (out.new ≡ put (vps_layer present width i before.now) v.now out.old) }
+{
+    put_u8_if(out, present, 6, v.layer_id_in_nuh)?;
+    put_u8(out, width, v.dimension_id)
+}
+
+#[tactic(auto, using(mv_syntax::proofs::LoopLaws::put_item_steps), unfolding(crate::specs::Dimensions::vps_layers))]
+fn put_vps_layers(
+    out: &mut BitWriter,
+    all: &[VpsLayer],
+    vps_max_layers_minus1: u8,
+    present: bool,
+    width: u8,
+) -> Result<(), AllocError>
+    requires width { width ≤ 8 }
+    requires few { vps_max_layers_minus1 ≤ 62 }
+    requires valid { Valid (vps_layers vps_max_layers_minus1 present width) all.now }
+    ensures { OnOk result (out.new ≡ put (vps_layers vps_max_layers_minus1 present width) all.now out.old) }
+{
+    for k in 0..all.len() {
+        put_vps_layer(out, &all[k], present, width, k + 1, &all[..k])?;
+    }
+    Ok(())
+}
+
+#[tactic(auto, using(crate::proofs::DimensionLaws::dimension_steps), unfolding(crate::specs::Dimensions::dimensions))]
+pub(crate) fn put_dimensions(
+    out: &mut BitWriter,
+    v: &VpsDimensions,
+    vps_max_layers_minus1: u8,
+    vps_max_sub_layers_minus1: u8,
+) -> Result<(), AllocError>
+    requires layers { vps_max_layers_minus1 ≤ 62 }
+    requires subs { vps_max_sub_layers_minus1 ≤ 6 }
+    requires valid { Valid (dimensions vps_max_layers_minus1 vps_max_sub_layers_minus1) v.now }
+    ensures { OnOk result (out.new ≡ put (dimensions vps_max_layers_minus1 vps_max_sub_layers_minus1) v.now out.old) }
+{
+    let several = vps_max_layers_minus1 > 0;
+    let views = has_views(&v.scalability_mask_flag);
+    let coded = v.vps_nuh_layer_id_present_flag == 1;
+    let width = id_width(v.dimension_id_len_minus1);
+    put_profile_tier_if(
+        out,
+        several,
+        &v.profile_tier_level,
+        vps_max_sub_layers_minus1,
+    )?;
+    put_u8(out, 1, v.splitting_flag)?;
+    put_mask_flags(out, &v.scalability_mask_flag, vps_max_layers_minus1)?;
+    put_u8_if(out, views, 3, v.dimension_id_len_minus1)?;
+    put_u8(out, 1, v.vps_nuh_layer_id_present_flag)?;
+    put_vps_layers(out, &v.layers, vps_max_layers_minus1, coded, width)?;
+    put_u8(out, 4, v.view_id_len)?;
+    put_view_id_vals_if(
+        out,
+        v.view_id_len > 0,
+        &v.view_id_val,
+        vps_max_layers_minus1,
+        v.view_id_len,
+    )
+}

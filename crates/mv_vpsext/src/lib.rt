@@ -1,0 +1,45 @@
+//! The extension of a video parameter set (H.265 F.7.3.2.1.1): it is read and written exactly, and what is derived of it too.
+#![tactic(auto)]
+
+mod added_layer_sets;
+mod args;
+mod dependencies;
+mod dependency_types;
+mod derived;
+mod dimensions;
+mod dpb_numbers;
+mod dpb_sizes;
+mod fault;
+mod fields;
+mod formats;
+mod laws;
+mod layer_infos;
+mod layer_sets;
+mod layers;
+mod output_layers;
+mod output_sets;
+mod parts;
+mod profiles;
+mod reached;
+mod rep_format;
+mod set_layers;
+mod shared;
+mod vps_ext;
+
+pub use args::{LayerSet, VpsArgs};
+pub use dependencies::{LayerDependencies, LayerMaxTids, VpsDependencies};
+pub use dependency_types::{LayerDependencyTypes, VpsDependencyTypes};
+pub use derived::{Derived, Ols};
+pub use dimensions::{VpsDimensions, VpsLayer};
+pub use dpb_numbers::DpbNumbers;
+pub use dpb_sizes::{DpbSizes, DpbSubLayer};
+pub use formats::VpsFormats;
+pub use laws::{closure_laws, vps_extension_laws};
+pub use layer_infos::LayerInfo;
+pub use output_sets::{OutputLayerSet, VpsOutputSets};
+pub use profiles::{VpsProfile, VpsProfiles};
+pub use rep_format::{ChromaAndDepth, ConformanceWindow, RepFormat};
+pub use vps_ext::VpsExt;
+
+#[cfg(test)]
+mod tests;

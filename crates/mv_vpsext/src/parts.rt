@@ -1,0 +1,275 @@
+//! The parts of the extension, from the arguments and the parts before: each is read and written by a call of its own.
+
+ghost use Rattle.std.specs.Prelude.{◌≡◌, ℕ, ◌≤◌, [], get_or, IfOk, OnOk};
+ghost use Rattle.mv_syntax.specs.Table.{Valid, read, put};
+ghost use Rattle.mv_syntax.specs.Words.{◌otherwise◌};
+ghost use Rattle.mv_syntax.specs.Answers.{Fills};
+ghost use Rattle.mv_vpsext.specs.Args.{AreVpsArgs};
+ghost use Rattle.mv_vpsext.specs.Faults.{means};
+ghost use Rattle.mv_vpsext.specs.Dimensions.{dimensions};
+ghost use Rattle.mv_vpsext.specs.Dependencies.{dependencies};
+ghost use Rattle.mv_vpsext.specs.Profiles.{profiles};
+ghost use Rattle.mv_vpsext.specs.OutputSets.{output_sets};
+ghost use Rattle.mv_vpsext.specs.Formats.{formats};
+ghost use Rattle.mv_vpsext.specs.DependencyTypes.{types};
+ghost use Rattle.mv_vpsext.specs.VpsExt.{ext_layers, dpb_sizes};
+
+use crate::args::VpsArgs;
+use crate::dependencies::{VpsDependencies, dependencies_of, put_dependencies};
+use crate::dependency_types::{VpsDependencyTypes, put_types, types_of};
+use crate::dimensions::{VpsDimensions, dimensions_of};
+use crate::dpb_sizes::{DpbSizes, dpb_size_of, put_dpb_size};
+use crate::fault::ExtFault;
+use crate::formats::{VpsFormats, formats_of, put_formats};
+use crate::layer_infos::{LayerInfo, layer_infos_of};
+use crate::output_sets::{VpsOutputSets, output_sets_of, put_output_sets};
+use crate::profiles::{VpsProfiles, profiles_of};
+use crate::set_layers::set_layers_of;
+use mv_bits::{BitReader, BitWriter};
+use std::alloc::{AllocError, Global};
+
+/// What the first two parts say of each layer.
+#[tactic(auto, unfolding(crate::specs::VpsExt::ext_layers))]
+pub(crate) fn infos_of(
+    alloc: Global,
+    args: &VpsArgs,
+    first: &VpsDimensions,
+    second: &VpsDependencies,
+) -> Result<Vec<LayerInfo>, AllocError>
+    requires { AreVpsArgs args.now }
+    ensures { IfOk result (λ v. v.items ≡ ext_layers args.now first.now second.now) }
+{
+    layer_infos_of(
+        alloc,
+        args.vps_max_layers_minus1,
+        &first.layers,
+        &first.view_id_val,
+        &second.direct_dependency_flag,
+    )
+}
+
+pub(crate) fn first_part_of(
+    alloc: Global,
+    bits: &mut BitReader,
+    args: &VpsArgs,
+) -> Result<VpsDimensions, ExtFault>
+    requires { AreVpsArgs args.now }
+    ensures { Fills (λ v. v) means bits.old bits.new result (read (dimensions args.now.vps_max_layers_minus1 args.now.vps_max_sub_layers_minus1) bits.old.left) }
+{
+    dimensions_of(
+        alloc,
+        bits,
+        args.vps_max_layers_minus1,
+        args.vps_max_sub_layers_minus1,
+    )
+}
+
+pub(crate) fn second_part_of(
+    alloc: Global,
+    bits: &mut BitReader,
+    args: &VpsArgs,
+    first: &VpsDimensions,
+) -> Result<VpsDependencies, ExtFault>
+    requires { AreVpsArgs args.now }
+    ensures { Fills (λ v. v) means bits.old bits.new result (read (dependencies args.now.vps_max_layers_minus1 first.now.layers args.now.layer_id_included_flag) bits.old.left) }
+{
+    dependencies_of(
+        alloc,
+        bits,
+        args.vps_max_layers_minus1,
+        &first.layers,
+        &args.layer_id_included_flag,
+    )
+}
+
+pub(crate) fn third_part_of(
+    alloc: Global,
+    bits: &mut BitReader,
+    args: &VpsArgs,
+) -> Result<VpsProfiles, ExtFault>
+    requires { AreVpsArgs args.now }
+    ensures { Fills (λ v. v) means bits.old bits.new result (read (profiles args.now.vps_max_sub_layers_minus1) bits.old.left) }
+{
+    profiles_of(alloc, bits, args.vps_max_sub_layers_minus1)
+}
+
+#[tactic(auto, using(crate::proofs::Bounds::flags_within))]
+pub(crate) fn fourth_part_of(
+    alloc: Global,
+    bits: &mut BitReader,
+    args: &VpsArgs,
+    infos: &[LayerInfo],
+    third: &VpsProfiles,
+) -> Result<VpsOutputSets, ExtFault>
+    requires args { AreVpsArgs args.now }
+    requires profiles { third.now.vps_num_profile_tier_level_minus1 ≤ 63 }
+    ensures { Fills (λ v. v) means bits.old bits.new result (read (output_sets infos.now args.now.layer_id_included_flag third.now.vps_num_profile_tier_level_minus1) bits.old.left) }
+{
+    output_sets_of(
+        alloc,
+        bits,
+        infos,
+        &args.layer_id_included_flag,
+        third.vps_num_profile_tier_level_minus1,
+    )
+}
+
+pub(crate) fn fifth_part_of(
+    alloc: Global,
+    bits: &mut BitReader,
+    args: &VpsArgs,
+    second: &VpsDependencies,
+) -> Result<VpsFormats, ExtFault>
+    requires { AreVpsArgs args.now }
+    ensures { Fills (λ v. v) means bits.old bits.new result (read (formats args.now.vps_max_layers_minus1 second.now.direct_dependency_flag) bits.old.left) }
+{
+    formats_of(
+        alloc,
+        bits,
+        args.vps_max_layers_minus1,
+        &second.direct_dependency_flag,
+    )
+}
+
+#[tactic(auto, using(crate::proofs::Bounds::sets_within, crate::proofs::Bounds::flags_within), unfolding(crate::specs::VpsExt::dpb_sizes))]
+pub(crate) fn sixth_part_of(
+    alloc: Global,
+    bits: &mut BitReader,
+    args: &VpsArgs,
+    infos: &[LayerInfo],
+    second: &VpsDependencies,
+    fourth: &VpsOutputSets,
+) -> Result<Vec<DpbSizes>, ExtFault>
+    requires args { AreVpsArgs args.now }
+    requires sub_layers { (k : ℕ) → get_or (second.now.sub_layers_vps_max_minus1 otherwise []) k 0 ≤ 6 }
+    ensures { Fills (λ v. v.items) means bits.old bits.new result (read (dpb_sizes args.now infos.now second.now fourth.now) bits.old.left) }
+{
+    let sets = set_layers_of(
+        alloc,
+        infos,
+        args.vps_max_sub_layers_minus1,
+        &second.sub_layers_vps_max_minus1,
+        &args.layer_id_included_flag,
+        fourth,
+    )?;
+    dpb_size_of(alloc, bits, &sets)
+}
+
+pub(crate) fn seventh_part_of(
+    alloc: Global,
+    bits: &mut BitReader,
+    args: &VpsArgs,
+    second: &VpsDependencies,
+) -> Result<VpsDependencyTypes, ExtFault>
+    requires { AreVpsArgs args.now }
+    ensures { Fills (λ v. v) means bits.old bits.new result (read (types args.now.vps_max_layers_minus1 second.now.direct_dependency_flag) bits.old.left) }
+{
+    types_of(
+        alloc,
+        bits,
+        args.vps_max_layers_minus1,
+        &second.direct_dependency_flag,
+    )
+}
+
+pub(crate) fn put_second_part(
+    out: &mut BitWriter,
+    v: &VpsDependencies,
+    args: &VpsArgs,
+    first: &VpsDimensions,
+) -> Result<(), AllocError>
+    requires args { AreVpsArgs args.now }
+    requires valid { Valid (dependencies args.now.vps_max_layers_minus1 first.now.layers args.now.layer_id_included_flag) v.now }
+    ensures { OnOk result (out.new ≡ put (dependencies args.now.vps_max_layers_minus1 first.now.layers args.now.layer_id_included_flag) v.now out.old) }
+{
+    put_dependencies(
+        out,
+        v,
+        args.vps_max_layers_minus1,
+        &first.layers,
+        &args.layer_id_included_flag,
+    )
+}
+
+#[tactic(auto, using(crate::proofs::Bounds::flags_within))]
+pub(crate) fn put_fourth_part(
+    out: &mut BitWriter,
+    v: &VpsOutputSets,
+    args: &VpsArgs,
+    infos: &[LayerInfo],
+    third: &VpsProfiles,
+) -> Result<(), AllocError>
+    requires args { AreVpsArgs args.now }
+    requires profiles { third.now.vps_num_profile_tier_level_minus1 ≤ 63 }
+    requires valid { Valid (output_sets infos.now args.now.layer_id_included_flag third.now.vps_num_profile_tier_level_minus1) v.now }
+    ensures { OnOk result (out.new ≡ put (output_sets infos.now args.now.layer_id_included_flag third.now.vps_num_profile_tier_level_minus1) v.now out.old) }
+{
+    put_output_sets(
+        out,
+        v,
+        infos,
+        &args.layer_id_included_flag,
+        third.vps_num_profile_tier_level_minus1,
+    )
+}
+
+pub(crate) fn put_fifth_part(
+    out: &mut BitWriter,
+    v: &VpsFormats,
+    args: &VpsArgs,
+    second: &VpsDependencies,
+) -> Result<(), AllocError>
+    requires args { AreVpsArgs args.now }
+    requires valid { Valid (formats args.now.vps_max_layers_minus1 second.now.direct_dependency_flag) v.now }
+    ensures { OnOk result (out.new ≡ put (formats args.now.vps_max_layers_minus1 second.now.direct_dependency_flag) v.now out.old) }
+{
+    put_formats(
+        out,
+        v,
+        args.vps_max_layers_minus1,
+        &second.direct_dependency_flag,
+    )
+}
+
+#[tactic(auto, using(crate::proofs::Bounds::sets_within, crate::proofs::Bounds::flags_within), unfolding(crate::specs::VpsExt::dpb_sizes))]
+pub(crate) fn put_sixth_part(
+    out: &mut BitWriter,
+    all: &[DpbSizes],
+    args: &VpsArgs,
+    infos: &[LayerInfo],
+    second: &VpsDependencies,
+    fourth: &VpsOutputSets,
+) -> Result<(), AllocError>
+    requires args { AreVpsArgs args.now }
+    requires sub_layers { (k : ℕ) → get_or (second.now.sub_layers_vps_max_minus1 otherwise []) k 0 ≤ 6 }
+    requires valid { Valid (dpb_sizes args.now infos.now second.now fourth.now) all.now }
+    ensures { OnOk result (out.new ≡ put (dpb_sizes args.now infos.now second.now fourth.now) all.now out.old) }
+{
+    let sets = set_layers_of(
+        *fourth.output_layer_sets.allocator(),
+        infos,
+        args.vps_max_sub_layers_minus1,
+        &second.sub_layers_vps_max_minus1,
+        &args.layer_id_included_flag,
+        fourth,
+    )?;
+    put_dpb_size(out, all, &sets)
+}
+
+pub(crate) fn put_seventh_part(
+    out: &mut BitWriter,
+    v: &VpsDependencyTypes,
+    args: &VpsArgs,
+    second: &VpsDependencies,
+) -> Result<(), AllocError>
+    requires args { AreVpsArgs args.now }
+    requires valid { Valid (types args.now.vps_max_layers_minus1 second.now.direct_dependency_flag) v.now }
+    ensures { OnOk result (out.new ≡ put (types args.now.vps_max_layers_minus1 second.now.direct_dependency_flag) v.now out.old) }
+{
+    put_types(
+        out,
+        v,
+        args.vps_max_layers_minus1,
+        &second.direct_dependency_flag,
+    )
+}
