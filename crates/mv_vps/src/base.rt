@@ -1,0 +1,129 @@
+ghost use Rattle.std.specs.Prelude.{◌≡◌, ◌≤◌, ◌<◌, ◌^◌, [], true, length, Ok, Err, OnOk, MatchResult};
+ghost use Rattle.mv_syntax.specs.Bits.{align_bits, short};
+ghost use Rattle.mv_syntax.specs.Cursor.{place};
+ghost use Rattle.mv_syntax.specs.Table.{Valid, read, put, behind};
+ghost use Rattle.mv_syntax.specs.Answers.{Fills};
+ghost use Rattle.mv_vps.specs.Faults.{means};
+ghost use Rattle.mv_vps.specs.Base.{base, aligned_base};
+
+use crate::fault::VpsFault;
+use crate::head::{VpsHead, head_of, put_head};
+use crate::layer_sets::{VpsLayerSets, all_layer_sets_of, put_all_layer_sets};
+use crate::ordering::{VpsOrdering, ordering_of, put_ordering};
+use crate::timing::{VpsTiming, put_timing_if, timing_if};
+use mv_bits::{BitReader, BitWriter, NoBits};
+use mv_common::{put_u8, u8_of};
+use std::alloc::{AllocError, Global};
+use std::marker::Model;
+
+/// The fields that every video parameter set has, up to vps_extension_flag.
+#[derive(Debug, Drop)]
+pub struct VpsBase {
+    pub head: VpsHead,
+    pub ordering: VpsOrdering,
+    pub layer_sets: VpsLayerSets,
+    pub vps_timing_info_present_flag: u8,
+    /// Coded where vps_timing_info_present_flag is 1.
+    pub timing: Option<VpsTiming>,
+    pub vps_extension_flag: u8,
+}
+
+impl Model for VpsBase {
+    ghost use Rattle.mv_vps.specs.Base.{VpsBaseValue};
+
+    ghost Value = { VpsBaseValue };
+
+    ghost view = { λ b. record {
+      head = b.head;
+      ordering = b.ordering;
+      layer_sets = b.layer_sets;
+      vps_timing_info_present_flag = b.vps_timing_info_present_flag;
+      timing = b.timing;
+      vps_extension_flag = b.vps_extension_flag;
+    } };
+}
+
+#[tactic(auto, unfolding(crate::specs::Base::base))]
+fn base_of(alloc: Global, bits: &mut BitReader) -> Result<VpsBase, VpsFault>
+    ensures { Fills (λ v. v) means bits.old bits.new result (read base bits.old.left) }
+{
+    let head = head_of(alloc, bits)?;
+    let subs = head.vps_max_sub_layers_minus1;
+    let ordering = ordering_of(alloc, bits, subs)?;
+    let layer_sets = all_layer_sets_of(alloc, bits)?;
+    let vps_timing_info_present_flag = u8_of(bits, 1)?;
+    let timing = timing_if(alloc, bits, vps_timing_info_present_flag == 1, subs)?;
+    let vps_extension_flag = u8_of(bits, 1)?;
+    Ok(VpsBase {
+        head,
+        ordering,
+        layer_sets,
+        vps_timing_info_present_flag,
+        timing,
+        vps_extension_flag,
+    })
+}
+
+#[tactic(auto, unfolding(crate::specs::Base::base))]
+fn put_base(out: &mut BitWriter, v: &VpsBase) -> Result<(), AllocError>
+    requires few { v.now.head.vps_max_sub_layers_minus1 ≤ 6 }
+    requires valid { Valid base v.now }
+    ensures { OnOk result (out.new ≡ put base v.now out.old) }
+{
+    let subs = v.head.vps_max_sub_layers_minus1;
+    put_head(out, &v.head)?;
+    put_ordering(out, &v.ordering, subs)?;
+    put_all_layer_sets(out, &v.layer_sets)?;
+    put_u8(out, 1, v.vps_timing_info_present_flag)?;
+    put_timing_if(out, v.vps_timing_info_present_flag == 1, &v.timing, subs)?;
+    put_u8(out, 1, v.vps_extension_flag)
+}
+
+// Takes one bits up to the end of the byte.
+fn take_ones(bits: &mut BitReader) -> Result<(), NoBits>
+    requires { place bits.old < 2 ^ 64 }
+    ensures { MatchResult result
+        (λ _. (behind (align_bits true (place bits.old)) bits.old.left ≡ Ok bits.new.left) × (bits.new.total ≡ bits.old.total))
+        (λ _. behind (align_bits true (place bits.old)) bits.old.left ≡ Err short) }
+{
+    let n = ((8 - bits.place() % 8) % 8) as u8;
+    let all = (1 << n) - 1;
+    match bits.u(n) {
+        Ok(ones) if ones == all => Ok(()),
+        Ok(_) => Err(NoBits),
+        Err(e) => Err(e),
+    }
+}
+
+/// The fields up to vps_extension_flag from the head of a payload, and before an extension the one bits up to the byte's end.
+pub(crate) fn aligned_base_of(alloc: Global, bits: &mut BitReader) -> Result<VpsBase, VpsFault>
+    requires at_head { bits.old.total ≡ length bits.old.left }
+    requires few { bits.old.total < 2 ^ 64 }
+    ensures { Fills (λ v. v) means bits.old bits.new result (read aligned_base bits.old.left) }
+{
+    let base = match base_of(alloc, bits) {
+        Ok(base) => base,
+        Err(fault) => return Err(fault),
+    };
+    if base.vps_extension_flag != 1 {
+        return Ok(base);
+    }
+    match take_ones(bits) {
+        Ok(()) => Ok(base),
+        Err(e) => Err(VpsFault::from(e)),
+    }
+}
+
+/// Writes the same at the head of a payload.
+pub(crate) fn put_aligned_base(out: &mut BitWriter, v: &VpsBase) -> Result<(), AllocError>
+    requires at_head { out.old ≡ [] }
+    requires few { v.now.head.vps_max_sub_layers_minus1 ≤ 6 }
+    requires valid { Valid aligned_base v.now }
+    ensures { OnOk result (out.new ≡ put aligned_base v.now out.old) }
+{
+    put_base(out, v)?;
+    if v.vps_extension_flag != 1 {
+        return Ok(());
+    }
+    out.align(true)
+}

@@ -1,0 +1,154 @@
+//! The extension of a video parameter set, and what is derived with it or without.
+
+ghost use Rattle.std.specs.Prelude.{◌≡◌, ◌∷◌, [], OnOk, IfOk};
+ghost use Rattle.mv_syntax.specs.Table.{when, Valid, read, put};
+ghost use Rattle.mv_syntax.specs.Words.{is_set};
+ghost use Rattle.mv_syntax.specs.Answers.{Fills};
+ghost use Rattle.mv_vpsext.specs.Args.{AreVpsArgs};
+ghost use Rattle.mv_vpsext.specs.VpsExt.{vps_extension};
+ghost use Rattle.mv_vps.specs.Faults.{means};
+ghost use Rattle.mv_vps.specs.Base.{args_of};
+ghost use Rattle.mv_vps.specs.Vps.{has_vui, has_extension2_flag, layer_0_alone, described};
+
+use crate::base::VpsBase;
+use crate::fault::VpsFault;
+use mv_bits::{BitReader, BitWriter};
+use mv_vpsext::{Derived, LayerInfo, LayerSet, Ols, VpsArgs, VpsExt};
+use std::alloc::{AllocError, Global};
+
+fn copy_of(set: &LayerSet) -> Result<LayerSet, AllocError>
+    ensures { IfOk result (λ s. s ≡ set.now) }
+{
+    let layer_id_included_flag = set.layer_id_included_flag.clone()?;
+    Ok(LayerSet {
+        layer_id_included_flag,
+    })
+}
+
+fn copies_of(alloc: Global, sets: &[LayerSet]) -> Result<Vec<LayerSet>, AllocError>
+    ensures { IfOk result (λ v. v.items ≡ sets.now) }
+{
+    let mut all = Vec::new(alloc);
+    for set in sets {
+        all.push(copy_of(set)?)?;
+    }
+    Ok(all)
+}
+
+// What the extension takes from the fields before it.
+fn args_of(alloc: Global, base: &VpsBase) -> Result<VpsArgs, AllocError>
+    ensures { IfOk result (λ args. args ≡ args_of base.now) }
+{
+    let layer_id_included_flag = copies_of(alloc, &base.layer_sets.layer_id_included_flag)?;
+    Ok(VpsArgs {
+        vps_max_layers_minus1: base.head.vps_max_layers_minus1,
+        vps_max_sub_layers_minus1: base.head.vps_max_sub_layers_minus1,
+        vps_max_layer_id: base.layer_sets.vps_max_layer_id,
+        vps_num_layer_sets_minus1: base.layer_sets.vps_num_layer_sets_minus1,
+        layer_id_included_flag,
+    })
+}
+
+// Layer 0 in a list of its own.
+fn base_layer(alloc: Global) -> Result<Vec<u8>, AllocError>
+    ensures { IfOk result (λ v. v.items ≡ 0 ∷ []) }
+{
+    let mut layers = Vec::new(alloc);
+    layers.push(0)?;
+    Ok(layers)
+}
+
+// What a video parameter set without an extension describes.
+fn layer_0_alone(alloc: Global) -> Result<Derived, AllocError>
+    ensures { IfOk result (λ d. d ≡ layer_0_alone) }
+{
+    let info = LayerInfo {
+        layer: 0,
+        view_order: 0,
+        view_id: 0,
+        directs: Vec::new(alloc),
+        closure: base_layer(alloc)?,
+    };
+    let set = Ols {
+        layers: base_layer(alloc)?,
+        outputs: base_layer(alloc)?,
+        necessary: base_layer(alloc)?,
+        reorder: None,
+    };
+    let mut layers = Vec::new(alloc);
+    layers.push(info)?;
+    let mut sets = Vec::new(alloc);
+    sets.push(set)?;
+    Ok(Derived { layers, sets })
+}
+
+fn ext_of(alloc: Global, bits: &mut BitReader, args: &VpsArgs) -> Result<VpsExt, VpsFault>
+    requires { AreVpsArgs args.now }
+    ensures { Fills (λ v. v) means bits.old bits.new result (read (vps_extension args.now) bits.old.left) }
+{
+    match VpsExt::read(alloc, bits, args) {
+        Ok(value) => Ok(value),
+        Err(fault) => Err(VpsFault::from(fault)),
+    }
+}
+
+/// The extension behind these fields, where vps_extension_flag is 1, and what the two describe.
+pub(crate) fn extension_of(
+    alloc: Global,
+    bits: &mut BitReader,
+    base: &VpsBase,
+) -> Result<(Option<VpsExt>, Derived), VpsFault>
+    requires { AreVpsArgs (args_of base.now) }
+    ensures fills { Fills (λ v. v.0) means bits.old bits.new result (read (when (is_set base.now.vps_extension_flag) (vps_extension (args_of base.now))) bits.old.left) }
+    ensures derived { IfOk result (λ v. v.1 ≡ described (args_of base.now) v.0) }
+{
+    if base.vps_extension_flag != 1 {
+        let derived = layer_0_alone(alloc)?;
+        return Ok((None, derived));
+    }
+    let args = args_of(alloc, base)?;
+    let ext = ext_of(alloc, bits, &args)?;
+    let derived = ext.derive(alloc, &args)?;
+    Ok((Some(ext), derived))
+}
+
+/// Writes the extension behind these fields, where there is one.
+#[tactic(auto, using(mv_vpsext::proofs::Sharing::shared_put_steps))]
+pub(crate) fn put_extension(
+    alloc: Global,
+    out: &mut BitWriter,
+    base: &VpsBase,
+    extension: &Option<VpsExt>,
+) -> Result<(), AllocError>
+    requires args { AreVpsArgs (args_of base.now) }
+    requires valid { Valid (when (is_set base.now.vps_extension_flag) (vps_extension (args_of base.now))) extension.now }
+    ensures { OnOk result (out.new ≡ put (when (is_set base.now.vps_extension_flag) (vps_extension (args_of base.now))) extension.now out.old) }
+{
+    match extension {
+        Some(ext) => {
+            let args = args_of(alloc, base)?;
+            ext.write(out, &args)
+        }
+        None => Ok(()),
+    }
+}
+
+/// Whether there is an extension with a VUI, which is left unread.
+pub(crate) fn has_vui(extension: &Option<VpsExt>) -> bool
+    ensures { result ≡ has_vui extension.now }
+{
+    match extension {
+        Some(ext) => ext.types.vps_vui_present_flag == 1,
+        None => false,
+    }
+}
+
+/// Whether vps_extension2_flag is coded: behind an extension that has no VUI.
+pub(crate) fn has_extension2_flag(extension: &Option<VpsExt>) -> bool
+    ensures { result ≡ has_extension2_flag extension.now }
+{
+    match extension {
+        Some(ext) => ext.types.vps_vui_present_flag != 1,
+        None => false,
+    }
+}

@@ -1,0 +1,181 @@
+//! The hrd_parameters of layer sets (7.3.2.1, E.2.2). One without a first group of its own has that of the one before.
+
+ghost use Rattle.std.specs.Prelude.{◌≡◌, ◌≤◌, OnOk};
+ghost use Rattle.mv_syntax.specs.Table.{by_rule, Valid, read, put};
+ghost use Rattle.mv_syntax.specs.Answers.{Fills};
+ghost use Rattle.mv_syntax.specs.Words.{is_set, ◌otherwise◌};
+ghost use Rattle.mv_common.specs.Hrd.{hrd_parameters, in_force};
+ghost use Rattle.mv_vps.specs.Faults.{means};
+ghost use Rattle.mv_vps.specs.Timing.{vps_hrd, vps_hrds};
+
+use crate::fault::VpsFault;
+use mv_bits::{BitReader, BitWriter};
+use mv_common::{Hrd, HrdArgs, HrdFlags, flags_in_force, put_u8_if, put_ue, u8_if};
+use std::alloc::{AllocError, Global};
+use std::marker::Model;
+
+/// The hrd_parameters of a layer set.
+#[derive(Debug, Drop)]
+pub struct VpsHrd {
+    pub hrd_layer_set_idx: u32,
+    /// Not coded for the first, which has a first group.
+    pub cprms_present_flag: Option<u8>,
+    pub hrd_parameters: Hrd,
+}
+
+impl Model for VpsHrd {
+    ghost use Rattle.mv_vps.specs.Timing.{VpsHrdValue};
+
+    ghost Value = { VpsHrdValue };
+
+    ghost view = { λ h. record {
+      hrd_layer_set_idx = h.hrd_layer_set_idx;
+      cprms_present_flag = h.cprms_present_flag;
+      hrd_parameters = h.hrd_parameters;
+    } };
+}
+
+/// No first group was coded yet.
+const NO_FLAGS: HrdFlags = HrdFlags {
+    nal: false,
+    vcl: false,
+    sub_pic: false,
+};
+
+// hrd_parameters, where these flags of the first group are in force before it.
+fn hrd_of(
+    alloc: Global,
+    bits: &mut BitReader,
+    common: bool,
+    subs: u8,
+    before: HrdFlags,
+) -> Result<Hrd, VpsFault>
+    requires { subs ≤ 6 }
+    ensures { Fills (λ v. v) means bits.old bits.new result (read (by_rule 26 (hrd_parameters common subs before)) bits.old.left) }
+{
+    let args = HrdArgs {
+        common,
+        subs,
+        nal: before.nal,
+        vcl: before.vcl,
+        sub_pic: before.sub_pic,
+    };
+    match Hrd::read(alloc, bits, &args) {
+        Ok(value) => Ok(value),
+        Err(fault) => Err(VpsFault::from(fault)),
+    }
+}
+
+#[tactic(auto, using(mv_vpsext::proofs::Sharing::shared_put_steps))]
+fn put_hrd(
+    out: &mut BitWriter,
+    v: &Hrd,
+    common: bool,
+    subs: u8,
+    before: HrdFlags,
+) -> Result<(), AllocError>
+    requires subs { subs ≤ 6 }
+    requires valid { Valid (by_rule 26 (hrd_parameters common subs before)) v.now }
+    ensures { OnOk result (out.new ≡ put (by_rule 26 (hrd_parameters common subs before)) v.now out.old) }
+{
+    let args = HrdArgs {
+        common,
+        subs,
+        nal: before.nal,
+        vcl: before.vcl,
+        sub_pic: before.sub_pic,
+    };
+    v.write(out, &args)
+}
+
+// Whether the first group is coded: where the flag is left out it is 1.
+fn has_common(cprms_present_flag: Option<u8>) -> bool
+    ensures { result ≡ is_set (cprms_present_flag otherwise 1) }
+{
+    cprms_present_flag.unwrap_or(1) == 1
+}
+
+#[tactic(auto, unfolding(crate::specs::Timing::vps_hrd))]
+fn vps_hrd_of(
+    alloc: Global,
+    bits: &mut BitReader,
+    subs: u8,
+    before: HrdFlags,
+    i: u32,
+) -> Result<VpsHrd, VpsFault>
+    requires { subs ≤ 6 }
+    ensures { Fills (λ v. v) means bits.old bits.new result (read (vps_hrd subs before i) bits.old.left) }
+{
+    let hrd_layer_set_idx = bits.ue()?;
+    let cprms_present_flag = u8_if(bits, i > 0, 1)?;
+    let hrd_parameters = hrd_of(alloc, bits, has_common(cprms_present_flag), subs, before)?;
+    Ok(VpsHrd {
+        hrd_layer_set_idx,
+        cprms_present_flag,
+        hrd_parameters,
+    })
+}
+
+// The flags of the first group in force behind these hrd_parameters.
+fn flags_after(hrd: &VpsHrd, before: HrdFlags) -> HrdFlags
+    ensures { result ≡ in_force hrd.now.hrd_parameters.common before }
+{
+    flags_in_force(&hrd.hrd_parameters.common, before)
+}
+
+#[tactic(auto, using(crate::proofs::HrdSteps::hrd_steps))]
+pub(crate) fn vps_hrds_of(
+    alloc: Global,
+    bits: &mut BitReader,
+    subs: u8,
+    n: u32,
+) -> Result<Vec<VpsHrd>, VpsFault>
+    requires { subs ≤ 6 }
+    ensures { Fills (λ v. v.items) means bits.old bits.new result (read (vps_hrds subs n) bits.old.left) }
+{
+    let mut flags = NO_FLAGS;
+    let mut all = Vec::new(alloc);
+    for i in 0..n {
+        let hrd = vps_hrd_of(alloc, bits, subs, flags, i)?;
+        flags = flags_after(&hrd, flags);
+        all.push(hrd)?;
+    }
+    Ok(all)
+}
+
+#[tactic(auto, unfolding(crate::specs::Timing::vps_hrd))]
+fn put_vps_hrd(
+    out: &mut BitWriter,
+    v: &VpsHrd,
+    subs: u8,
+    before: HrdFlags,
+    i: usize,
+) -> Result<(), AllocError>
+    requires subs { subs ≤ 6 }
+    requires valid { Valid (vps_hrd subs before i) v.now }
+    ensures { OnOk result (out.new ≡ put (vps_hrd subs before i) v.now out.old) }
+{
+    put_ue(out, v.hrd_layer_set_idx)?;
+    put_u8_if(out, i > 0, 1, v.cprms_present_flag)?;
+    let common = has_common(v.cprms_present_flag);
+    put_hrd(out, &v.hrd_parameters, common, subs, before)
+}
+
+#[tactic(auto, using(crate::proofs::HrdSteps::put_hrd_steps))]
+pub(crate) fn put_vps_hrds(
+    out: &mut BitWriter,
+    all: &[VpsHrd],
+    subs: u8,
+    n: u32,
+) -> Result<(), AllocError>
+    requires subs { subs ≤ 6 }
+    requires valid { Valid (vps_hrds subs n) all.now }
+    ensures { OnOk result (out.new ≡ put (vps_hrds subs n) all.now out.old) }
+{
+    let mut flags = NO_FLAGS;
+    for i in 0..all.len() {
+        put_vps_hrd(out, &all[i], subs, flags, i)?;
+        flags = flags_after(&all[i], flags);
+    }
+    Ok(())
+}

@@ -1,0 +1,110 @@
+ghost use Rattle.std.specs.Prelude.{◌≡◌, ◌≤◌, OnOk};
+ghost use Rattle.mv_syntax.specs.Table.{when, Valid, read, put};
+ghost use Rattle.mv_syntax.specs.Answers.{Fills};
+ghost use Rattle.mv_vps.specs.Faults.{means};
+ghost use Rattle.mv_vps.specs.Timing.{timing};
+
+use crate::fault::VpsFault;
+use crate::fields::ue_within;
+use crate::hrds::{VpsHrd, put_vps_hrds, vps_hrds_of};
+use mv_bits::{BitReader, BitWriter};
+use mv_common::{put_u8, put_u32, put_ue, put_ue_if, u8_of, u32_of, ue_if};
+use std::alloc::{AllocError, Global};
+use std::marker::Model;
+
+/// The units of time, and the hrd_parameters of layer sets.
+#[derive(Debug, Drop)]
+pub struct VpsTiming {
+    pub vps_num_units_in_tick: u32,
+    pub vps_time_scale: u32,
+    pub vps_poc_proportional_to_timing_flag: u8,
+    pub vps_num_ticks_poc_diff_one_minus1: Option<u32>,
+    pub vps_num_hrd_parameters: u32,
+    pub hrds: Vec<VpsHrd>,
+}
+
+impl Model for VpsTiming {
+    ghost use Rattle.mv_vps.specs.Timing.{VpsTimingValue};
+
+    ghost Value = { VpsTimingValue };
+
+    ghost view = { λ t. record {
+      vps_num_units_in_tick = t.vps_num_units_in_tick;
+      vps_time_scale = t.vps_time_scale;
+      vps_poc_proportional_to_timing_flag = t.vps_poc_proportional_to_timing_flag;
+      vps_num_ticks_poc_diff_one_minus1 = t.vps_num_ticks_poc_diff_one_minus1;
+      vps_num_hrd_parameters = t.vps_num_hrd_parameters;
+      hrds = t.hrds.items;
+    } };
+}
+
+#[tactic(auto, unfolding(crate::specs::Timing::timing))]
+fn timing_of(alloc: Global, bits: &mut BitReader, subs: u8) -> Result<VpsTiming, VpsFault>
+    requires { subs ≤ 6 }
+    ensures { Fills (λ v. v) means bits.old bits.new result (read (timing subs) bits.old.left) }
+{
+    let vps_num_units_in_tick = u32_of(bits, 32)?;
+    let vps_time_scale = u32_of(bits, 32)?;
+    let vps_poc_proportional_to_timing_flag = u8_of(bits, 1)?;
+    let proportional = vps_poc_proportional_to_timing_flag == 1;
+    let vps_num_ticks_poc_diff_one_minus1 = ue_if(bits, proportional)?;
+    let vps_num_hrd_parameters = ue_within(bits, 1024)?;
+    let hrds = vps_hrds_of(alloc, bits, subs, vps_num_hrd_parameters)?;
+    Ok(VpsTiming {
+        vps_num_units_in_tick,
+        vps_time_scale,
+        vps_poc_proportional_to_timing_flag,
+        vps_num_ticks_poc_diff_one_minus1,
+        vps_num_hrd_parameters,
+        hrds,
+    })
+}
+
+pub(crate) fn timing_if(
+    alloc: Global,
+    bits: &mut BitReader,
+    present: bool,
+    subs: u8,
+) -> Result<Option<VpsTiming>, VpsFault>
+    requires { subs ≤ 6 }
+    ensures { Fills (λ v. v) means bits.old bits.new result (read (when present (timing subs)) bits.old.left) }
+{
+    if !present {
+        return Ok(None);
+    }
+    Ok(Some(timing_of(alloc, bits, subs)?))
+}
+
+#[tactic(auto, unfolding(crate::specs::Timing::timing))]
+fn put_timing(out: &mut BitWriter, v: &VpsTiming, subs: u8) -> Result<(), AllocError>
+    requires subs { subs ≤ 6 }
+    requires valid { Valid (timing subs) v.now }
+    ensures { OnOk result (out.new ≡ put (timing subs) v.now out.old) }
+{
+    put_u32(out, 32, v.vps_num_units_in_tick)?;
+    put_u32(out, 32, v.vps_time_scale)?;
+    put_u8(out, 1, v.vps_poc_proportional_to_timing_flag)?;
+    put_ue_if(
+        out,
+        v.vps_poc_proportional_to_timing_flag == 1,
+        v.vps_num_ticks_poc_diff_one_minus1,
+    )?;
+    put_ue(out, v.vps_num_hrd_parameters)?;
+    put_vps_hrds(out, &v.hrds, subs, v.vps_num_hrd_parameters)
+}
+
+pub(crate) fn put_timing_if(
+    out: &mut BitWriter,
+    present: bool,
+    v: &Option<VpsTiming>,
+    subs: u8,
+) -> Result<(), AllocError>
+    requires subs { subs ≤ 6 }
+    requires valid { Valid (when present (timing subs)) v.now }
+    ensures { OnOk result (out.new ≡ put (when present (timing subs)) v.now out.old) }
+{
+    match v {
+        Some(v) => put_timing(out, v, subs),
+        None => Ok(()),
+    }
+}
