@@ -1,0 +1,10 @@
+use Rattle.std.proofs.Common.{◌≡◌}
+use Rattle.mv_syntax.specs.Table.{read}
+use Rattle.mv_syntax.specs.Loops.{rest_of_items}
+use Rattle.mv_slice.specs.Weights.{luma_flag, luma_flags}
+use Rattle.mv_slice.proofs.weights.luma_flags_of.Given as goal
+
+abbrev pub invariant-loop-i : goal.invariant-loop-i
+invariant-loop-i l =
+    (read (luma_flags l.n) l.fn.bits.left ≡ rest_of_items luma_flag l.i l.n l.all.items l.bits.left)
+    × (l.bits.total ≡ l.fn.bits.total)

@@ -1,0 +1,15 @@
+pub mod Numbers
+pub mod Context
+pub mod Faults
+pub mod Opening
+pub mod LongTerms
+pub mod Picture
+pub mod Layers
+pub mod InterLayer
+pub mod Derived
+pub mod Weights
+pub mod Prediction
+pub mod Filters
+pub mod Ending
+pub mod Slice
+pub mod Peek
