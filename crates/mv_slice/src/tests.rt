@@ -597,8 +597,9 @@ fn refuses(rt: &impl Abort, alloc: Global, ctx: &SliceContext, rows: &[(u8, &[u8
 
 // In turn past its limit: the id, slice_type, a set's pictures, the index of a set, the numbers of long-term pictures from
 // the sequence parameter set and of others, the index of a candidate, the active entries of list 0 and list 1, the entry
-// points, the bits of an offset, and the extension's bytes.
-static PAST_LIMITS: [(u8, &[u8]); 12] = [
+// points, the bits of an offset, the extension's bytes, the pictures of both sides of a set, the distance of one, the set that a
+// set is predicted from, and the difference to it.
+static PAST_LIMITS: [(u8, &[u8]); 16] = [
     (1, &[0x81, 0x04]),
     (1, &[0xC0, 0x80]),
     (1, &[0xC3, 0x00, 0x09, 0x00]),
@@ -611,6 +612,10 @@ static PAST_LIMITS: [(u8, &[u8]); 12] = [
     (1, &[0x70, 0x40, 0x00, 0x20, 0x00, 0x20]),
     (1, &[0x70, 0x50, 0x21]),
     (1, &[0x70, 0x60, 0x10, 0x20]),
+    (1, &[0xC3, 0x00, 0x14, 0x26]),
+    (1, &[0xC3, 0x00, 0x50, 0x00, 0x10, 0x00, 0x30]),
+    (1, &[0xC3, 0x01, 0x24]),
+    (1, &[0xC3, 0x01, 0x80, 0x00, 0x40, 0x00, 0xC0]),
 ];
 
 static CROSS_LAYER_BLA: [(u8, &[u8]); 1] = [(1, &[0xD0])];
