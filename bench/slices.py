@@ -18,27 +18,25 @@ import sys
 import tempfile
 
 HERE = os.path.dirname(os.path.dirname(os.path.abspath(__file__)))
-CRATES = ("mv_io", "mv_defs", "mv_syntax", "mv_bits", "mv_common", "mv_slice")
+CRATES = ("mv_rules", "mv_units", "mv_syntax", "mv_bits", "mv_fields", "mv_short_sets", "mv_slice")
 TURNS = 1_000_000
 CONTEXT = """//! Reads slice segment headers in a loop.
 #![tactic(auto)]
 
-ghost use Rattle.std.specs.Prelude.{IfOk};
 ghost use Rattle.mv_slice.specs.Context.{Fits};
 
-use mv_defs::UnitHead;
+use mv_units::UnitHead;
 use mv_slice::{SliceContext, read_slice};
-use smallvec::SmallVec;
-use std::alloc::{AllocError, Global};
+use std::alloc::Global;
 use std::process::ExitCode;
 
-fn first_view(alloc: Global) -> SliceContext
+fn first_view() -> SliceContext<'static>
     ensures { Fits result }
 {
     SliceContext {
         layer: 0,
         directs: 0,
-        eligible: SmallVec::new(alloc),
+        eligible: &[],
         poc_lsb_not_present_flag: 0,
         default_ref_layers_active_flag: 1,
         max_one_active_ref_layer_flag: 1,
@@ -46,11 +44,11 @@ fn first_view(alloc: Global) -> SliceContext
         lsb_bits: 4,
         chroma: true,
         num_short_term_ref_pic_sets: 0,
-        short_sets: Vec::new(alloc),
+        short_sets: &[],
         long_term_ref_pics_present_flag: 0,
         num_long_term_ref_pics_sps: 0,
-        lt_ref_pic_poc_lsb_sps: Vec::new(alloc),
-        used_by_curr_pic_lt_sps_flag: Vec::new(alloc),
+        lt_ref_pic_poc_lsb_sps: &[],
+        used_by_curr_pic_lt_sps_flag: &[],
         sps_temporal_mvp_enabled_flag: 0,
         sample_adaptive_offset_enabled_flag: 0,
         dependent_slice_segments_enabled_flag: 0,
@@ -87,24 +85,21 @@ fn bytes_of(alloc: Global, ctx: &SliceContext, kind: u8, payload: &[u8]) -> u64
 }
 """
 LOOP = CONTEXT + """
-fn second_view(alloc: Global) -> Result<SliceContext, AllocError>
-    ensures { IfOk result (λ ctx. Fits ctx) }
+fn second_view() -> SliceContext<'static>
+    ensures { Fits result }
 {
-    let eligible = SmallVec::from_slice(alloc, &[0])?;
-    Ok(SliceContext {
+    SliceContext {
         layer: 1,
         directs: 1,
-        eligible,
-        ..first_view(alloc)
-    })
+        eligible: b"\\x00",
+        ..first_view()
+    }
 }
 
 fn main(rt: HostRuntime) -> ExitCode {
     let alloc = rt.alloc();
-    let first = first_view(alloc);
-    let Ok(second) = second_view(alloc) else {
-        return ExitCode::from(2);
-    };
+    let first = first_view();
+    let second = second_view();
     let mut sum = 0u64;
     for _ in 0..TURNSu64 {
         sum = sum.wrapping_add(bytes_of(alloc, &first, 19, &[0xAF, 0xD0]));
@@ -119,10 +114,10 @@ fn main(rt: HostRuntime) -> ExitCode {
     }
 }
 """
-ONE = CONTEXT.replace("ghost use Rattle.std.specs.Prelude.{IfOk};\n", "").replace("{AllocError, Global}", "Global") + """
+ONE = CONTEXT + """
 fn main(rt: HostRuntime) -> ExitCode {
     let alloc = rt.alloc();
-    if bytes_of(alloc, &first_view(alloc), 19, &[0xAF, 0xD0]) == 1 {
+    if bytes_of(alloc, &first_view(), 19, &[0xAF, 0xD0]) == 1 {
         ExitCode::SUCCESS
     } else {
         ExitCode::from(1)
@@ -142,7 +137,7 @@ def build(folder):
     with open(f"{HERE}/crates.txt") as listed:
         lines = [line for line in listed if line.split(":")[0] in CRATES]
     with open(f"{folder}/crates.txt", "w") as out:
-        out.write("".join(lines) + "bench: mv_slice mv_defs smallvec\none: mv_slice mv_defs smallvec\n")
+        out.write("".join(lines) + "bench: mv_slice mv_units\none: mv_slice mv_units\n")
     done = subprocess.run(["rt", "run"], cwd=f"{folder}/crates/bench", capture_output=True, text=True)
     if not os.access(f"{folder}/crates/bench/out/bench", os.X_OK):
         sys.exit(done.stdout[-3000:] + done.stderr[-3000:])

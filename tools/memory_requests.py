@@ -14,7 +14,7 @@ import sys
 import tempfile
 
 HERE = os.path.dirname(os.path.dirname(os.path.abspath(__file__)))
-CRATES = ("mv_io", "mv_defs", "mv_bytestream", "mv_extract")
+CRATES = ("mv_rules", "mv_io", "mv_units", "mv_judging", "mv_bytestream", "mv_engine", "mv_extract")
 LIMITS = (100_000, 10_000_000)
 MOST = 40
 PROGRAM = """//! `extract 0` over endless zero bytes: its end as the exit status.
@@ -30,8 +30,7 @@ struct Zeros;
 impl Source for Zeros {
     ghost use Rattle.std.specs.Prelude.{None};
 
-    ghost told = { λ _. None };
-    ghost faults = { λ _. 0 };
+    ghost state = { λ _. record { told = None; faults = 0 } };
 
     fn read(&mut self, into: &mut [u8]) -> Result<usize, SourceFailed> {
         into.fill(0);
@@ -45,8 +44,7 @@ struct Nothing;
 impl Sink for Nothing {
     ghost use Rattle.std.specs.Prelude.{None};
 
-    ghost taken = { λ _. None };
-    ghost faults = { λ _. 0 };
+    ghost state = { λ _. record { taken = None; faults = 0 } };
 
     fn write(&mut self, piece: &[u8]) -> Result<usize, SinkFailed> {
         Ok(piece.len())

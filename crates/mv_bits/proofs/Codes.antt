@@ -4,7 +4,7 @@ use Rattle.std.proofs.lemmas.Bool.{cases_lt}
 use Rattle.std.proofs.lemmas.Nat.{pow_pos, pow-add, le-div, div_below, shr_split, mod_below}
 use Rattle.mv_syntax.specs.Bits.{short, kept, u_bits, take_bits, take_ue_from, take_ue, ue_bits, byte_bits}
 use Rattle.mv_syntax.proofs.BitLaws.{same_ok, take_ue-ue_bits, ue_bits-number, u_bits-append}
-use Rattle.mv_bits.specs.Cursor.{window_bits}
+use Rattle.mv_bits.specs.inner.Window.{window_bits}
 use Rattle.mv_bits.proofs.Windows.{low_word}
 
 -- ---- a bit at a time

@@ -5,7 +5,8 @@ use Rattle.std.proofs.lemmas.List.{length-replicate}
 use Rattle.std.specs.Borrow.{Bor}
 use Rattle.mv_syntax.specs.Bits.{u_bits, byte_bits, align_bits, trailing_bits, has_one, more_data}
 use Rattle.mv_syntax.proofs.BitLaws.{has_one-append, has_one-u_bits, u_bits-one, u_bits-injective}
-use Rattle.mv_bits.specs.Cursor.{Cursor, place, window_bits, IsWindow}
+use Rattle.mv_bits.specs.Cursor.{Cursor, place}
+use Rattle.mv_bits.specs.inner.Window.{window_bits, IsWindow}
 use Rattle.mv_bits.proofs.Windows.{low_word, length-window_bits}
 
 -- ---- more data
@@ -54,20 +55,20 @@ pub trailing_bits-is : (at k : ℕ) → (8 - (at + 1) % 8) % 8 ≡ k → trailin
 unfolding trailing_bits align_bits
 trailing_bits-is at k e = ap (λ n. true ∷ replicate n false) e
 
-window_bits-last : (count word : ℕ) (bytes : List ℕ) → length bytes ≡ 0 → window_bits count word bytes ≡ u_bits count word
+pub window_bits-last : (count word : ℕ) (bytes : List ℕ) → length bytes ≡ 0 → window_bits count word bytes ≡ u_bits count word
 unfolding window_bits byte_bits
 window_bits-last count word [] e = append-nil (u_bits count word)
 window_bits-last count word (byte ∷ bytes) e = absurd (omega arith)
 
 -- the place is behind whole bytes, but for the bits that are left
-pub trailing_bits-found : (cursor : Cursor) (whole word count : ℕ) (rest : Bor (List ℕ)) → IsWindow cursor (word, count, rest) → place cursor + length cursor.left ≡ 8 * whole → count ≤ 8 → word ≡ 1 * 2 ^ (count - 1) % 2 ^ 64 → length rest.now ≡ 0 → cursor.left ≡ trailing_bits (place cursor)
-trailing_bits-found cursor whole word count rest w at most one none =
+pub trailing_bits-found : (cursor : Cursor) (word count : ℕ) (rest : Bor (List ℕ)) → IsWindow cursor (word, count, rest) → count ≤ 8 → word ≡ 1 * 2 ^ (count - 1) % 2 ^ 64 → length rest.now ≡ 0 → cursor.left ≡ trailing_bits (place cursor)
+trailing_bits-found cursor word count rest w most one none =
     let k = count - 1 in
     let next : suc k ≡ count = omega (arith, w.some) in
     let narrow : k < 64 = omega (arith, w.narrow) in
     let word_is : word ≡ 2 ^ k = one ∙ one_shl k 64 narrow in
     let size : length cursor.left ≡ count = omega (arith, ap length w.left, length-window_bits count word rest.now) in
-    let zeros : (8 - (place cursor + 1) % 8) % 8 ≡ k = omega (arith, at, size, most, w.some) in
+    let zeros : (8 - (place cursor + 1) % 8) % 8 ≡ k = omega (arith, w.whole, size, most, w.some) in
     sym w.left
     ∙ window_bits-last count word rest.now none
     ∙ ap₂ u_bits (sym next) word_is

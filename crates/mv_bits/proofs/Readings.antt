@@ -1,23 +1,35 @@
 -- What is known of a reader's calls.
-use Rattle.std.proofs.Common.{◌≡◌, ℕ, ◌+◌, ◌-◌, ◌/◌, ◌%◌, ◌^◌, ◌<◌, ◌*◌, Bool, ℤ, pos, negsuc, nat_abs, neg_ℤ, ◌-ℤ◌, ◌<ℤ◌, ◌≤ℤ◌, to_z, of_z, w32, List, Result, Ok, Err, refl, IsErr, IfOk, ap, arith}
+use Rattle.std.proofs.Common.{◌≡◌, ℕ, ◌+◌, ◌-◌, ◌/◌, ◌%◌, ◌^◌, ◌<◌, ◌*◌, Bool, ℤ, pos, negsuc, nat_abs, neg_ℤ, ◌-ℤ◌, ◌<ℤ◌, ◌≤ℤ◌, to_z, of_z, w32, List, Result, Ok, Err, refl, IsErr, IfOk, ap, arith, ◌++◌, ◌↔◌}
 use Rattle.std.specs.Int.{div_ceil}
 use Rattle.std.proofs.lemmas.Int.{ints}
-use Rattle.mv_syntax.specs.Bits.{Fault, short, take_bits, take_ue, take_se, kept, se_value, se_code}
-use Rattle.mv_syntax.proofs.BitLaws.{take_bits-printed, take_ue-printed}
-use Rattle.mv_bits.specs.Cursor.{Cursor, Takes}
+use Rattle.mv_syntax.specs.Bits.{Fault, short, take_ue, take_se, kept, se_value, se_code}
+use Rattle.mv_bits.specs.Cursor.{Cursor, TakesPrinted, Takes}
 
 -- a short reading, where nothing moved
 pub Takes-refused : {A E : Type 0} (now : Cursor) (r : Result A E) (reading : Result (A × List Bool) Fault) → IsErr r → reading ≡ Err short → Takes now now r reading
 Takes-refused now (Ok value) reading h e = absurd (cc)
 Takes-refused now (Err fault) reading h e = (e, refl)
 
-pub Takes_bits-in_range : {E : Type 0} (n : ℕ) (old new : Cursor) (r : Result ℕ E) → Takes old new r (take_bits n 0 old.left) → IfOk r (λ value. value < 2 ^ n)
-Takes_bits-in_range n old new (Ok value) h = (take_bits-printed n old.left value new.left h.0).1
-Takes_bits-in_range n old new (Err fault) h = _
+-- what is printed for a value that was taken
+pub Takes-printed : {A E : Type 0} (printed : A → List Bool) (old new : Cursor) (r : Result A E) (reading : Result (A × List Bool) Fault)
+    → ((v : A) (rest : List Bool) → reading ≡ Ok (v, rest) → old.left ≡ printed v ++ rest)
+    → Takes old new r reading → TakesPrinted printed old new r
+Takes-printed printed old new (Ok value) reading stood h = (stood value new.left h.0, h.1)
+Takes-printed printed old new (Err fault) reading stood h = h.1
 
-pub Takes_ue-in_range : {E : Type 0} (old new : Cursor) (r : Result ℕ E) → Takes old new r (take_ue old.left) → IfOk r (λ value. value < 2 ^ 32 - 1)
-Takes_ue-in_range old new (Ok value) h = (take_ue-printed old.left value new.left h.0).1
-Takes_ue-in_range old new (Err fault) h = _
+-- a value that was taken has what every value that reads has
+pub Takes-in_range : {A E : Type 0} (P : A → Type 0) (old new : Cursor) (r : Result A E) (reading : Result (A × List Bool) Fault)
+    → ((v : A) (rest : List Bool) → reading ≡ Ok (v, rest) → P v)
+    → Takes old new r reading → IfOk r P
+Takes-in_range P old new (Ok value) reading each h = each value new.left h.0
+Takes-in_range P old new (Err fault) reading each h = _
+
+-- an error comes exactly where the reading is short
+pub Takes-missing : {A E : Type 0} (P : Type 0) (old new : Cursor) (r : Result A E) (reading : Result (A × List Bool) Fault)
+    → (reading ≡ Err short → P) → (P → reading ≡ Err short)
+    → Takes old new r reading → IsErr r ↔ P
+Takes-missing P old new (Ok value) reading from to h = (λ e. absurd (cc), λ p. absurd (cc (h.0, to p)))
+Takes-missing P old new (Err fault) reading from to h = (λ e. from h.0, λ p. refl)
 
 -- a reading of ue(v), as one of se(v)
 pub Takes_se-from_ue : (left rest : List Bool) (code : ℕ) → take_ue left ≡ Ok (code, rest) → take_se left ≡ Ok (se_value code, rest)

@@ -1,9 +1,11 @@
 -- What a reader's steps do to the bits that are left.
 use Rattle.std.proofs.Common.{◌≡◌, ℕ, ◌+◌, ◌-◌, ◌*◌, ◌/◌, ◌%◌, ◌^◌, ◌<◌, ◌≤◌, Bool, Result, List, ◌∷◌, ◌++◌, length, Ok, Err, bit_and, bit_or, sym, ap, ap₂, ◌∙◌, arith, append_assoc, length-append, zero, suc, [], refl, IsTrue, ◌↔◌, nat_eq, eqb-true, eq-eqb}
 use Rattle.std.proofs.lemmas.Nat.{shr_split, shr_below, mod_below, pow_pos, pow-add, shl_whole, or_shifted, one_shl, and_mask}
+use Rattle.std.specs.Borrow.{Bor}
 use Rattle.mv_syntax.specs.Bits.{Fault, short, ◌>>=◌, kept, u_bits, take_bits, byte_bits}
 use Rattle.mv_syntax.proofs.BitLaws.{u_bits-append, take_bits-u_bits, take_bits-short, take_bits-add, take_bits-printed, length-u_bits, length-byte_bits}
-use Rattle.mv_bits.specs.Cursor.{Cursor, place, window_bits}
+use Rattle.mv_bits.specs.Cursor.{Cursor, place}
+use Rattle.mv_bits.specs.inner.Window.{window_bits, IsWindow, SetKnown}
 
 pub same_cursor : {c d : Cursor} → c.total ≡ d.total → c.left ≡ d.left → c ≡ d
 same_cursor e f = let made : ℕ → List Bool → Cursor = λ t b. record { total = t; left = b } in ap₂ made e f
@@ -115,7 +117,7 @@ Holds-pulled count word first whole bytes rest cursor h room byte split =
       total = h.total;
     }
 
-pub Holds-from : (count word : ℕ) (bytes : List ℕ) (whole : ℕ) (cursor : Cursor) → (let seen : Cursor = record { total = 8 * whole; left = window_bits count word bytes } in seen ≡ cursor) → (count < 64) × (word < 2 ^ count) × (count + 8 * length bytes ≤ 8 * whole) → Holds count word bytes whole cursor
+pub Holds-from : {set : ℕ} (count word : ℕ) (bytes : List ℕ) (whole : ℕ) (cursor : Cursor) → (let seen : Cursor = record { total = 8 * whole; left = window_bits count word bytes } in seen ≡ cursor) → (count < 64) × (word < 2 ^ count) × (count + 8 * length bytes ≤ 8 * whole) × SetKnown set whole bytes → Holds count word bytes whole cursor
 Holds-from count word bytes whole cursor e h = record {
   narrow = h.0;
   in_hand = h.1;
@@ -154,3 +156,24 @@ window_bits-first (suc count) word first bytes rest e split = absurd (omega arit
 pub Holds-whole : {count word : ℕ} {bytes : List ℕ} {whole : ℕ} {cursor : Cursor} → Holds count word bytes whole cursor → place cursor + length cursor.left ≡ 8 * whole
 Holds-whole {count = count} {word = word} {bytes = bytes} h =
     omega (arith, h.within, h.total, ap length h.left, length-window_bits count word bytes)
+
+-- the bits in hand, or those of the first byte, as the next ones
+pub window_in_hand : {count word : ℕ} (bytes : Bor (List ℕ)) {whole : ℕ} {cursor : Cursor} → Holds count word bytes.now whole cursor → 0 < count → IsWindow cursor (word, count, bytes)
+window_in_hand bytes h some = record {
+  left = h.left;
+  some = some;
+  narrow = h.narrow;
+  in_hand = h.in_hand;
+  whole = omega (arith, Holds-whole h);
+}
+
+pub window_first : {count word : ℕ} {bytes : List ℕ} {whole : ℕ} {cursor : Cursor} (first : ℕ) (rest : Bor (List ℕ)) → Holds count word bytes whole cursor → count ≤ 0 → bytes ≡ first ∷ rest.now → first < 2 ^ 8 → IsWindow cursor (first, 8, rest)
+window_first {count = count} {word = word} {bytes = bytes} first rest h none split small =
+    let empty : count ≡ 0 = omega arith in
+    record {
+      left = sym (window_bits-first count word first bytes rest.now empty split) ∙ h.left;
+      some = omega arith;
+      narrow = omega arith;
+      in_hand = small;
+      whole = omega (arith, Holds-whole h);
+    }

@@ -6,10 +6,10 @@ use Rattle.mv_syntax.specs.Bits.{u_bits, ue_bits, align_bits, trailing_bits, byt
 use Rattle.mv_syntax.proofs.BitLaws.{u_bits-append, u_bits-ones, u_bits-zero, u_bits-one, ue_bits-number, length-u_bits, length-byte_bits}
 use Rattle.mv_bits.proofs.Codes.{exponent_lt}
 use Rattle.mv_bits.proofs.Endings.{trailing_bits-is}
-use Rattle.mv_bits.specs.Written.{written_bits, Extends}
+use Rattle.mv_bits.specs.inner.Written.{written_bits, Extends}
 
 -- a byte more behind the bytes
-byte_bits-push : (bytes : List ℕ) (byte : ℕ) → byte_bits (bytes ++ byte ∷ []) ≡ byte_bits bytes ++ u_bits 8 byte
+pub byte_bits-push : (bytes : List ℕ) (byte : ℕ) → byte_bits (bytes ++ byte ∷ []) ≡ byte_bits bytes ++ u_bits 8 byte
 unfolding byte_bits
 byte_bits-push [] byte = append-nil (u_bits 8 byte)
 byte_bits-push (b ∷ bytes) byte =

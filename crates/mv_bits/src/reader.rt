@@ -1,7 +1,7 @@
-ghost use Rattle.std.specs.Prelude.{◌≡◌, ◌≢◌, ◌≤◌, ◌<◌, ◌^◌, ◌%◌, ◌+◌, ◌-◌, ◌*◌, ◌↔◌, IsTrue, IfOk, OnOk, OnErr, length, [], Err, negsuc, ◌<ℤ◌, not, ◌==◌, MatchOption, MatchResult};
-ghost use Rattle.std.specs.List.{list_any};
-ghost use Rattle.mv_syntax.specs.Bits.{short, kept, take_bits, take_ue, take_se, trailing_bits, se_value, has_one, more_data, byte_bits};
-ghost use Rattle.mv_bits.specs.Cursor.{Cursor, place, Takes, window_bits, IsWindow};
+ghost use Rattle.std.specs.Prelude.{◌≡◌, ◌≢◌, ◌≤◌, ◌<◌, ◌^◌, ◌%◌, ◌+◌, ◌-◌, ◌*◌, ◌↔◌, IsTrue, IsErr, IfOk, OnOk, OnErr, length, [], Err, negsuc, ◌<ℤ◌, drop, nat_lt, ℕ, MatchOption, MatchResult};
+ghost use Rattle.mv_syntax.specs.Bits.{short, kept, u_bits, ue_bits, se_bits, HasNoUe, take_bits, take_ue, take_se, trailing_bits, se_value, has_one, more_data, byte_bits};
+ghost use Rattle.mv_bits.specs.Cursor.{Cursor, place, TakesPrinted, Takes};
+ghost use Rattle.mv_bits.specs.inner.Window.{window_bits, IsWindow};
 
 use crate::no_bits::NoBits;
 use std::marker::Model;
@@ -15,19 +15,21 @@ pub struct BitReader<'a> {
     word: u64,
     count: u8,
     bytes: &'a [u8],
-    // the number of bytes in all
+    // the number of bytes in all, and of those up to the last that is not 0
     whole: usize,
+    set: usize,
 }
 
 impl<'a> Model for BitReader<'a> {
     ghost use Rattle.std.specs.Prelude.{◌+◌, ◌*◌, ◌≤◌, ◌<◌, ◌^◌, length};
-    ghost use Rattle.mv_bits.specs.Cursor.{Cursor, window_bits};
+    ghost use Rattle.mv_bits.specs.Cursor.{Cursor};
+    ghost use Rattle.mv_bits.specs.inner.Window.{window_bits, SetKnown};
 
     ghost Value = { Cursor };
 
     ghost view = { λ r. record { total = 8 * r.whole; left = window_bits r.count r.word r.bytes.now } };
 
-    ghost invariant = { λ r. (r.count < 64) × (r.word < 2 ^ r.count) × (r.count + 8 * length r.bytes.now ≤ 8 * r.whole) };
+    ghost invariant = { λ r. (r.count < 64) × (r.word < 2 ^ r.count) × (r.count + 8 * length r.bytes.now ≤ 8 * r.whole) × SetKnown r.set r.whole r.bytes.now };
 }
 
 impl<'a> BitReader<'a> {
@@ -41,6 +43,7 @@ impl<'a> BitReader<'a> {
             count: 0,
             bytes,
             whole: bytes.len(),
+            set: set_bytes(bytes),
         }
     }
 
@@ -53,46 +56,45 @@ impl<'a> BitReader<'a> {
             count: self.count,
             bytes: self.bytes,
             whole: self.whole,
+            set: self.set,
         }
     }
 
     /// The next `n` bits as a number, u(n) (7.2), at most 64 bits.
     ///
-    /// `NoBits` where fewer bits are left.
+    /// `NoBits` exactly where fewer than `n` bits are left.
     pub fn u(&mut self, n: u8) -> Result<u64, NoBits>
         requires { n ≤ 64 }
-        ensures takes { Takes self.old self.new result (take_bits n 0 self.old.left) }
+        ensures printed { TakesPrinted (u_bits n) self.old self.new result }
         ensures in_range { IfOk result (λ value. value < 2 ^ n) }
+        ensures missing { IsErr result ↔ (length self.old.left < n) }
+        ensures takes { Takes self.old self.new result (take_bits n 0 self.old.left) }
     {
-        if n <= 56 { self.short(n) } else { self.long(n) }
+        self.next_u(n)
     }
 
     /// The next ue(v) code (9.2), a value of 0 to 2^32 - 2.
     ///
-    /// `NoBits` where the code runs past the end or has more than 31 leading zeros.
+    /// `NoBits` exactly where the code runs past the end or has more than 31 leading zeros.
     pub fn ue(&mut self) -> Result<u32, NoBits>
-        ensures takes { Takes self.old self.new result (take_ue self.old.left) }
+        ensures printed { TakesPrinted ue_bits self.old self.new result }
         ensures in_range { IfOk result (λ value. value < 2 ^ 32 - 1) }
+        ensures missing { IsErr result ↔ HasNoUe self.old.left }
+        ensures takes { Takes self.old self.new result (take_ue self.old.left) }
     {
-        if let Some(value) = self.ue_in_hand() {
-            return Ok(value);
-        }
-        self.fill();
-        if let Some(value) = self.ue_in_hand() {
-            return Ok(value);
-        }
-        self.long_ue()
+        self.next_ue()
     }
 
     /// The next se(v) code (9.2.2), a value of -(2^31 - 1) to 2^31 - 1.
     ///
-    /// `NoBits` as for `ue`.
+    /// `NoBits` exactly where `ue` answers it.
     pub fn se(&mut self) -> Result<i32, NoBits>
-        ensures takes { Takes self.old self.new result (take_se self.old.left) }
+        ensures printed { TakesPrinted se_bits self.old self.new result }
         ensures in_range { IfOk result (λ value. negsuc (2 ^ 31 - 1) <ℤ value) }
+        ensures missing { IsErr result ↔ HasNoUe self.old.left }
+        ensures takes { Takes self.old self.new result (take_se self.old.left) }
     {
-        let code = self.ue()?;
-        Ok(signed(code))
+        self.next_se()
     }
 
     /// Whether the place is at the start of a byte, byte_aligned() (7.2).
@@ -107,10 +109,14 @@ impl<'a> BitReader<'a> {
     pub fn more_data(&self) -> bool
         ensures { result ≡ more_data self.now.left }
     {
-        let Some((word, count, rest)) = self.next_bits() else {
+        if self.count > 0 {
+            let low = self.word & ((1 << (self.count - 1)) - 1);
+            return low != 0 || self.set > self.whole - self.bytes.len();
+        }
+        let Some((first, rest)) = self.bytes.split_first() else {
             return false;
         };
-        word & ((1 << (count - 1)) - 1) != 0 || any_set(rest)
+        first & 0x7F != 0 || self.set > self.whole - rest.len()
     }
 
     /// Takes the trailing bits, rbsp_trailing_bits() (7.3.2.11): a one and zeros to the end of the byte, which is
@@ -129,9 +135,7 @@ impl<'a> BitReader<'a> {
         if count > 8 || word != 1 << (count - 1) || !rest.is_empty() {
             return Err(NoBits);
         }
-        self.word = 0;
-        self.count = 0;
-        self.bytes = rest;
+        self.take_all();
         Ok(())
     }
 
@@ -146,7 +150,7 @@ impl<'a> BitReader<'a> {
     }
 
     // The bits in hand as a number, how many they are, and the bytes behind them: at least one bit, if any is left.
-    fn next_bits(&self) -> Option<(u64, u8, &'a [u8])>
+    pub(crate) fn next_bits(&self) -> Option<(u64, u8, &'a [u8])>
         ensures { MatchOption result (self.now.left ≡ []) (IsWindow self.now) }
     {
         if self.count > 0 {
@@ -154,6 +158,23 @@ impl<'a> BitReader<'a> {
         }
         let (first, rest) = self.bytes.split_first()?;
         Some((u64::from(*first), 8, rest))
+    }
+
+    // Takes all bits that are left.
+    pub(crate) fn take_all(&mut self)
+        ensures { self.new ≡ record { total = self.old.total; left = [] } }
+    {
+        self.word = 0;
+        self.count = 0;
+        self.bytes = &[];
+    }
+
+    // u(n) of at most 64 bits.
+    fn next_u(&mut self, n: u8) -> Result<u64, NoBits>
+        requires { n ≤ 64 }
+        ensures { Takes self.old self.new result (take_bits n 0 self.old.left) }
+    {
+        if n <= 56 { self.short(n) } else { self.long(n) }
     }
 
     // u(n) of at most 56 bits, which fit the word beside what is in hand.
@@ -186,6 +207,27 @@ impl<'a> BitReader<'a> {
         *self = ahead;
         Ok(high << 32 | low)
     }
+
+    fn next_ue(&mut self) -> Result<u32, NoBits>
+        ensures { Takes self.old self.new result (take_ue self.old.left) }
+    {
+        if let Some(value) = self.ue_in_hand() {
+            return Ok(value);
+        }
+        self.fill();
+        if let Some(value) = self.ue_in_hand() {
+            return Ok(value);
+        }
+        self.long_ue()
+    }
+
+    fn next_se(&mut self) -> Result<i32, NoBits>
+        ensures { Takes self.old self.new result (take_se self.old.left) }
+    {
+        let code = self.ue()?;
+        Ok(signed(code))
+    }
+
     // Takes bytes in hand while there is room for one.
     fn fill(&mut self)
         ensures { self.new ≡ self.old }
@@ -256,15 +298,17 @@ fn signed(code: u32) -> i32
     if code % 2 == 1 { size } else { -size }
 }
 
-// Whether a bit of the bytes is set.
-fn any_set(bytes: &[u8]) -> bool
-    ensures { result ≡ has_one (byte_bits bytes.now) }
+// The number of bytes up to the last that is not 0.
+fn set_bytes(bytes: &[u8]) -> usize
+    ensures within { result ≤ length bytes.now }
+    ensures known { (n : ℕ) → has_one (byte_bits (drop n bytes.now)) ≡ nat_lt n result }
 {
-    any_nonzero(bytes)
-}
-
-fn any_nonzero(bytes: &[u8]) -> bool
-    ensures { result ≡ list_any (λ byte. not (byte == 0)) bytes.now }
-{
-    bytes.iter().any(|byte| *byte != 0)
+    let mut set = bytes.len();
+    'byte: while set > 0 {
+        if bytes[set - 1] != 0 {
+            return set;
+        }
+        set -= 1;
+    }
+    0
 }

@@ -1,6 +1,6 @@
 ghost use Rattle.std.specs.Prelude.{◌≡◌, ◌≤◌, ◌<◌, ◌^◌, ◌%◌, ◌+◌, ◌-◌, ◌++◌, [], take, length, vec_len, IfOk, OnOk, OnErr, negsuc, ◌<ℤ◌};
 ghost use Rattle.mv_syntax.specs.Bits.{u_bits, ue_bits, se_bits, se_code, align_bits, trailing_bits, byte_bits};
-ghost use Rattle.mv_bits.specs.Written.{written_bits, Extends};
+ghost use Rattle.mv_bits.specs.inner.Written.{written_bits, Extends};
 
 use std::alloc::{AllocError, Global};
 use std::marker::Model;
@@ -18,7 +18,7 @@ pub struct BitWriter {
 
 impl Model for BitWriter {
     ghost use Rattle.std.specs.Prelude.{List, Bool, ◌<◌, ◌^◌};
-    ghost use Rattle.mv_bits.specs.Written.{written_bits};
+    ghost use Rattle.mv_bits.specs.inner.Written.{written_bits};
 
     ghost Value = { List Bool };
 

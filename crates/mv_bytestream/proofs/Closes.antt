@@ -1,26 +1,24 @@
 -- What a start code changes in what a scanner keeps, and what handing out changes.
-use Rattle.std.proofs.Common.{◌≡◌, ℕ, zero, suc, ◌+◌, ◌-◌, ◌≤◌, true, false, cond, not, find, List, [], ◌∷◌, ◌++◌, length, drop, replicate, Option, None, Some, refl, ap, sym, ◌∙◌, subst, arith, length-append, append_assoc}
+use Rattle.std.proofs.Common.{◌≡◌, ℕ, zero, suc, ◌+◌, ◌-◌, ◌≤◌, true, false, cond, not, List, [], ◌∷◌, ◌++◌, length, drop, replicate, Option, None, Some, refl, ap, sym, ◌∙◌, subst, arith, length-append, append_assoc}
 use Rattle.std.specs.List.{position_from}
 use Rattle.std.specs.Option.{option_map, option_or, option_to_list}
 use Rattle.std.proofs.Math.Seq.{drop-append_seam}
 use Rattle.std.proofs.lemmas.Bool.{true≢false}
 use Rattle.std.proofs.lemmas.List.{drop-drop, replicate-append-replicate}
-use Rattle.mv_io.specs.declared.rule.Rule.{Rule}
-use Rattle.mv_defs.specs.Units.{has_code, is_zero, pieces, leading, trimmed, NalUnit, placed, units}
-use Rattle.mv_defs.specs.Facts.{Fact, fact, facts_behind}
-use Rattle.mv_defs.specs.Rules.{short_unit, breaks, has_emulation, unit_rules}
-use Rattle.mv_defs.specs.Verdict.{refusal_by, verdict_by, refused_leading}
-use Rattle.mv_defs.specs.Event.{early_rules, refusal_shown, whole_units}
-use Rattle.mv_defs.proofs.Behind.{has_code-front, trimmed-zeros}
-use Rattle.mv_defs.proofs.Early.{refused, rules-is}
-use Rattle.mv_defs.proofs.FactLaws.{verdict-push}
-use Rattle.mv_defs.proofs.Longer.{span}
-use Rattle.mv_defs.proofs.Pieces.{pieces-code}
-use Rattle.mv_defs.proofs.Shown.{Open, pieces-more, open-clean, before, behind, front_shown, shown-is, units-none, units-end, whole-is}
-use Rattle.mv_defs.proofs.Shows.{before-append}
-use Rattle.mv_defs.proofs.Silent.{no_front}
+use Rattle.mv_rules.specs.declared.rule.Rule.{Rule}
+use Rattle.mv_units.specs.Units.{has_code, is_zero, pieces, leading, trimmed, NalUnit, placed, units}
+use Rattle.mv_units.specs.Rules.{short_unit, early_rule, has_emulation}
+use Rattle.mv_units.specs.Shown.{refused, refused_leading, unit_refusal, early_refusal, refusal_behind, first_refusal, refusal_shown, whole_units}
+use Rattle.mv_units.proofs.Behind.{has_code-front, trimmed-zeros}
+use Rattle.mv_units.proofs.Early.{unit_rule-is}
+use Rattle.mv_units.proofs.Refusals.{refusal-push}
+use Rattle.mv_units.proofs.Longer.{span}
+use Rattle.mv_units.proofs.Pieces.{pieces-code}
+use Rattle.mv_units.proofs.Shown.{Open, pieces-more, open-clean, before, behind, front_shown, shown-is, units-none, units-end, whole-is}
+use Rattle.mv_units.proofs.Shows.{before-append}
+use Rattle.mv_units.proofs.Silent.{no_front}
 use Rattle.mv_bytestream.specs.Scan.{Scan, StandsFor, bytes_of, handed_out}
-use Rattle.mv_bytestream.proofs.Runs.{Runs, running, runs-stands, open-length, keeps_at, fact_at, leading-front}
+use Rattle.mv_bytestream.proofs.Runs.{Runs, running, runs-stands, open-length, keeps_at, unit_of, leading-front}
 
 -- the open piece less the zero bytes of a start code
 abbrev closed : Option NalUnit → ℕ → List ℕ
@@ -68,7 +66,7 @@ closed-length s cs p fed given making z h low =
 -- the first code begins a unit
 pub runs-first : (s : List ℕ) (p : List ℕ) (fed given : ℕ) (z : ℕ) → Runs s [] p fed given None z → 2 ≤ z →
     Runs (s ++ 1 ∷ []) (closed None z ∷ []) [] (fed + 1) given (Some (record { place = fed + 1; bytes = [] })) 0
-unfolding trimmed placed has_emulation facts_behind
+unfolding trimmed placed has_emulation refusal_behind
 runs-first s p fed given z h low = record {
   opened = closed-open s [] p fed given None z h low;
   unit_is = ap (λ n. Some (record { place = n; bytes = [] })) (closed-length s [] p fed given None z h low);
@@ -94,35 +92,35 @@ closed-units s c cs p fed given u z h =
     ∙ ap (λ x. before (c ∷ cs) ++ x ∷ []) (making-is s c cs p fed given u z h)
 
 -- a short unit is refused, and one that is neither short nor refused early isn't by the rules on its bytes
-short-refused : (f : Fact) → short_unit f.unit.bytes ≡ true → refusal_by unit_rules f ≡ Some (refused f Rule.Short)
-short-refused f h = ap (λ t. option_map (refused f) (cond t (Some Rule.Short) (find (λ r. breaks r f) early_rules))) h
+short-refused : (n : ℕ) (u : NalUnit) → short_unit u.bytes ≡ true → unit_refusal n u ≡ Some (refused n u Rule.Short)
+short-refused n u h = ap (λ t. option_map (refused n u) (cond t (Some Rule.Short) (early_rule u.bytes))) h
 
-accepted-unit : (f : Fact) → short_unit f.unit.bytes ≡ false → refusal_by early_rules f ≡ None → refusal_by unit_rules f ≡ None
-accepted-unit f h none = rules-is [] f h ∙ ap (λ o. option_or o None) none
+accepted-unit : (n : ℕ) (u : NalUnit) → short_unit u.bytes ≡ false → early_refusal n u ≡ None → unit_refusal n u ≡ None
+accepted-unit n u h none = ap (option_map (refused n u)) (unit_rule-is u.bytes h) ∙ none
 
 closed-shown : (s : List ℕ) (c : List ℕ) (cs : List (List ℕ)) (p : List ℕ) (fed given : ℕ) (u : NalUnit) (z : ℕ) → Runs s (c ∷ cs) p fed given (Some u) z → 2 ≤ z →
-    refusal_shown unit_rules false (s ++ 1 ∷ []) ≡ option_or (refusal_by unit_rules (fact_at given u.place u.bytes)) None
+    refusal_shown false (s ++ 1 ∷ []) ≡ option_or (unit_refusal given (unit_of u.place u.bytes)) None
 unfolding trimmed has_emulation
 closed-shown s c cs p fed given u z h low =
-    shown-is unit_rules (s ++ 1 ∷ []) ((c ∷ cs) ++ closed (Some u) z ∷ []) [] (closed-open s (c ∷ cs) p fed given (Some u) z h low)
-    ∙ ap (λ f. option_or f (option_or (verdict_by unit_rules (before ((c ∷ cs) ++ closed (Some u) z ∷ []))) None)) h.front_none
-    ∙ ap (λ us. option_or (verdict_by unit_rules us) None) (closed-units s c cs p fed given u z h)
-    ∙ ap (λ v. option_or v None) (verdict-push unit_rules (before (c ∷ cs)) u)
-    ∙ ap (λ v. option_or (option_or v (refusal_by unit_rules (fact (before (c ∷ cs)) u))) None) h.closed_none
-    ∙ ap (λ n. option_or (refusal_by unit_rules (fact_at n u.place u.bytes)) None) (sym h.number)
+    shown-is (s ++ 1 ∷ []) ((c ∷ cs) ++ closed (Some u) z ∷ []) [] (closed-open s (c ∷ cs) p fed given (Some u) z h low)
+    ∙ ap (λ f. option_or f (option_or (first_refusal (before ((c ∷ cs) ++ closed (Some u) z ∷ []))) None)) h.front_none
+    ∙ ap (λ us. option_or (first_refusal us) None) (closed-units s c cs p fed given u z h)
+    ∙ ap (λ v. option_or v None) (refusal-push (before (c ∷ cs)) u)
+    ∙ ap (λ v. option_or (option_or v (unit_refusal (length (before (c ∷ cs))) (u))) None) h.closed_none
+    ∙ ap (λ n. option_or (unit_refusal n (unit_of u.place u.bytes)) None) (sym h.number)
 
 -- the unit in the making shows nothing
 pub making-quiet : (s : List ℕ) (c : List ℕ) (cs : List (List ℕ)) (p : List ℕ) (fed given : ℕ) (u : NalUnit) (z : ℕ) → Runs s (c ∷ cs) p fed given (Some u) z →
-    refusal_by early_rules (fact_at given u.place u.bytes) ≡ None
+    early_refusal given (unit_of u.place u.bytes) ≡ None
 making-quiet s c cs p fed given u z h =
-    ap (λ n. refusal_by early_rules (fact_at n u.place u.bytes)) h.number
-    ∙ ap (λ u. refusal_by early_rules (fact (before (c ∷ cs)) u)) (sym (making-is s c cs p fed given u z h))
+    ap (λ n. early_refusal n (unit_of u.place u.bytes)) h.number
+    ∙ ap (λ u. early_refusal (length (before (c ∷ cs))) (u)) (sym (making-is s c cs p fed given u z h))
     ∙ h.late_none
 
 pub short-shown : (s : List ℕ) (c : List ℕ) (cs : List (List ℕ)) (p : List ℕ) (fed given : ℕ) (u : NalUnit) (z : ℕ) → Runs s (c ∷ cs) p fed given (Some u) z → 2 ≤ z →
-    short_unit u.bytes ≡ true → refusal_shown unit_rules false (s ++ 1 ∷ []) ≡ Some (record { unit = given; byte = u.place; rule = Rule.Short })
+    short_unit u.bytes ≡ true → refusal_shown false (s ++ 1 ∷ []) ≡ Some (record { unit = given; byte = u.place; rule = Rule.Short })
 short-shown s c cs p fed given u z h low short =
-    closed-shown s c cs p fed given u z h low ∙ ap (λ o. option_or o None) (short-refused (fact_at given u.place u.bytes) short)
+    closed-shown s c cs p fed given u z h low ∙ ap (λ o. option_or o None) (short-refused given u short)
 
 -- a closed unit that isn't short waits
 pub closed-stands : (s : List ℕ) (c : List ℕ) (cs : List (List ℕ)) (p : List ℕ) (fed given : ℕ) (u : NalUnit) (z : ℕ) → Runs s (c ∷ cs) p fed given (Some u) z → 2 ≤ z →
@@ -134,7 +132,7 @@ closed-stands s c cs p fed given u z h low long =
     let whole : whole_units false (s ++ 1 ∷ []) ≡ before (c ∷ cs) ++ u ∷ [] = whole-is (s ++ 1 ∷ []) ((c ∷ cs) ++ closed (Some u) z ∷ []) [] opened ∙ closed-units s c cs p fed given u z h in
     record {
       fed = let f : fed ≡ length s = h.count in omega (arith, length-append s (1 ∷ []));
-      accepted = closed-shown s c cs p fed given u z h low ∙ ap (λ o. option_or o None) (accepted-unit (fact_at given u.place u.bytes) long (making-quiet s c cs p fed given u z h));
+      accepted = closed-shown s c cs p fed given u z h low ∙ ap (λ o. option_or o None) (accepted-unit given u long (making-quiet s c cs p fed given u z h));
       given = subst (λ us. given ≤ length us) (sym whole) (let n : given ≡ length (before (c ∷ cs)) = h.number in omega (arith, length-append (before (c ∷ cs)) (u ∷ [])));
       waiting = ap (drop given) whole ∙ ap (λ n. drop n (before (c ∷ cs) ++ u ∷ [])) h.number ∙ drop-append_seam (before (c ∷ cs)) (u ∷ []);
       keeps = λ _. keeps_at (s ++ 1 ∷ []) ((c ∷ cs) ++ closed (Some u) z ∷ []) [] _ 0 opened (ap (λ n. Some (record { place = n; bytes = [] })) (closed-length s (c ∷ cs) p fed given (Some u) z h low)) refl;
@@ -149,18 +147,18 @@ front-quiet : (s : List ℕ) (cs : List (List ℕ)) (p : List ℕ) (fed given : 
 front-quiet s cs p fed given making z h = ap front_shown h.opened ∙ h.front_none
 
 last-shown : (s : List ℕ) (c : List ℕ) (cs : List (List ℕ)) (p : List ℕ) (fed given : ℕ) (u : NalUnit) (z : ℕ) → Runs s (c ∷ cs) p fed given (Some u) z →
-    refusal_shown unit_rules true s ≡ option_or (refusal_by unit_rules (fact_at given u.place u.bytes)) None
+    refusal_shown true s ≡ option_or (unit_refusal given (unit_of u.place u.bytes)) None
 last-shown s c cs p fed given u z h =
-    ap (λ f. option_or f (option_or (verdict_by unit_rules (units s)) None)) (front-quiet s (c ∷ cs) p fed given (Some u) z h)
-    ∙ ap (λ us. option_or (verdict_by unit_rules us) None) (last-units s c cs p fed given u z h)
-    ∙ ap (λ v. option_or v None) (verdict-push unit_rules (before (c ∷ cs)) u)
-    ∙ ap (λ v. option_or (option_or v (refusal_by unit_rules (fact (before (c ∷ cs)) u))) None) h.closed_none
-    ∙ ap (λ n. option_or (refusal_by unit_rules (fact_at n u.place u.bytes)) None) (sym h.number)
+    ap (λ f. option_or f (option_or (first_refusal (units s)) None)) (front-quiet s (c ∷ cs) p fed given (Some u) z h)
+    ∙ ap (λ us. option_or (first_refusal us) None) (last-units s c cs p fed given u z h)
+    ∙ ap (λ v. option_or v None) (refusal-push (before (c ∷ cs)) u)
+    ∙ ap (λ v. option_or (option_or v (unit_refusal (length (before (c ∷ cs))) (u))) None) h.closed_none
+    ∙ ap (λ n. option_or (unit_refusal n (unit_of u.place u.bytes)) None) (sym h.number)
 
 pub last-short : (s : List ℕ) (c : List ℕ) (cs : List (List ℕ)) (p : List ℕ) (fed given : ℕ) (u : NalUnit) (z : ℕ) → Runs s (c ∷ cs) p fed given (Some u) z →
-    short_unit u.bytes ≡ true → refusal_shown unit_rules true s ≡ Some (record { unit = given; byte = u.place; rule = Rule.Short })
+    short_unit u.bytes ≡ true → refusal_shown true s ≡ Some (record { unit = given; byte = u.place; rule = Rule.Short })
 last-short s c cs p fed given u z h short =
-    last-shown s c cs p fed given u z h ∙ ap (λ o. option_or o None) (short-refused (fact_at given u.place u.bytes) short)
+    last-shown s c cs p fed given u z h ∙ ap (λ o. option_or o None) (short-refused given u short)
 
 pub last-stands : (s : List ℕ) (c : List ℕ) (cs : List (List ℕ)) (p : List ℕ) (fed given : ℕ) (u : NalUnit) (z left : ℕ) → Runs s (c ∷ cs) p fed given (Some u) z →
     short_unit u.bytes ≡ false →
@@ -169,7 +167,7 @@ last-stands s c cs p fed given u z left h long =
     let whole = last-units s c cs p fed given u z h in
     record {
       fed = h.count;
-      accepted = last-shown s c cs p fed given u z h ∙ ap (λ o. option_or o None) (accepted-unit (fact_at given u.place u.bytes) long (making-quiet s c cs p fed given u z h));
+      accepted = last-shown s c cs p fed given u z h ∙ ap (λ o. option_or o None) (accepted-unit given u long (making-quiet s c cs p fed given u z h));
       given = subst (λ us. given ≤ length us) (sym whole) (let n : given ≡ length (before (c ∷ cs)) = h.number in omega (arith, length-append (before (c ∷ cs)) (u ∷ [])));
       waiting = ap (drop given) whole ∙ ap (λ n. drop n (before (c ∷ cs) ++ u ∷ [])) h.number ∙ drop-append_seam (before (c ∷ cs)) (u ∷ []);
       keeps = λ e. absurd (true≢false e);
@@ -179,14 +177,14 @@ last-stands s c cs p fed given u z left h long =
 -- where no code came there is none
 pub none-stands : (s p : List ℕ) (fed given z left : ℕ) → Runs s [] p fed given None z →
     StandsFor (record { fed = fed; given = given; ended = true; waiting = None; making = None; zeros = left; refusal = None }) s
-unfolding placed facts_behind
+unfolding placed refusal_behind
 none-stands s p fed given z left h =
     let none = units-none s p h.opened in
     record {
       fed = h.count;
       accepted =
-          ap (λ f. option_or f (option_or (verdict_by unit_rules (units s)) None)) (front-quiet s [] p fed given None z h)
-          ∙ ap (λ us. option_or (verdict_by unit_rules us) None) none;
+          ap (λ f. option_or f (option_or (first_refusal (units s)) None)) (front-quiet s [] p fed given None z h)
+          ∙ ap (λ us. option_or (first_refusal us) None) none;
       given = subst (λ us. given ≤ length us) (sym none) (let n : given ≡ length (before []) = h.number in omega arith);
       waiting = ap (drop given) none ∙ ap (λ n. drop n []) h.number;
       keeps = λ e. absurd (true≢false e);
@@ -218,7 +216,7 @@ handed-stands scan u s is h = record {
 
 -- nothing was fed
 pub nothing-stands : StandsFor (running 0 0 None 0) []
-unfolding pieces placed facts_behind
+unfolding pieces placed refusal_behind
 nothing-stands = runs-stands [] [] [] 0 0 None 0 (record {
   opened = refl;
   unit_is = refl;

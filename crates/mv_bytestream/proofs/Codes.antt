@@ -4,7 +4,7 @@ use Rattle.std.proofs.lemmas.Bool.{or_from, and_parts, eqb-true}
 use Rattle.std.proofs.lemmas.List.{get_or-take, length-take, length-drop, drop-drop, take_rest}
 use Rattle.std.proofs.Math.Seq.{drop-cons}
 use Rattle.memchr.specs.Find.{OccursAt, Nowhere}
-use Rattle.mv_defs.specs.Units.{start_code, is_code, has_code}
+use Rattle.mv_units.specs.Units.{start_code, is_code, has_code}
 use Rattle.mv_bytestream.specs.Spans.{CodeOrEnd}
 
 -- three bytes that are a code are one that occurs

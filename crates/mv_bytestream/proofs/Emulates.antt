@@ -2,13 +2,13 @@
 use Rattle.std.proofs.Common.{◌≡◌, ◌≢◌, ℕ, zero, suc, ◌+◌, ◌-◌, ◌<◌, ◌≤◌, min, Bool, true, false, cond, ◌==◌, ◌&&◌, ◌||◌, nat_lt, nat_le, List, [], ◌∷◌, ◌++◌, length, take, drop, replicate, slice_index, Option, None, Some, refl, ap, sym, ◌∙◌, arith, length-append, append_assoc, ◌⊎◌, inl, inr}
 use Rattle.std.proofs.lemmas.Bool.{or_parts, or_left, or_right, and_right, true≢false, lt-ltb, le-ltb, le-leb, lt-leb, ne_eqb, cases_lt}
 use Rattle.std.proofs.lemmas.List.{length-replicate, take-append-le, take-append-drop, replicate-append-replicate}
-use Rattle.mv_io.specs.declared.rule.Rule.{Rule}
-use Rattle.mv_defs.specs.Units.{is_zero}
-use Rattle.mv_defs.specs.Rules.{longest_unit, above_three, begins_emulation, has_emulation, emulation, long_unit}
-use Rattle.mv_defs.proofs.Behind.{IsTrimmed, trimmed-tail, one_nonzero}
-use Rattle.mv_defs.proofs.Early.{has_emulation-front, emulation-more}
-use Rattle.mv_defs.proofs.Silent.{take-short}
-use Rattle.mv_bytestream.specs.Bytes.{IsQuiet, ends_three, early_rule}
+use Rattle.mv_rules.specs.declared.rule.Rule.{Rule}
+use Rattle.mv_units.specs.Units.{is_zero}
+use Rattle.mv_units.specs.Rules.{longest_unit, above_three, begins_emulation, has_emulation, emulation, long_unit, early_rule}
+use Rattle.mv_units.proofs.Behind.{IsTrimmed, trimmed-tail, one_nonzero}
+use Rattle.mv_units.proofs.Early.{has_emulation-front, emulation-more}
+use Rattle.mv_units.proofs.Silent.{take-short}
+use Rattle.mv_bytestream.specs.Bytes.{IsQuiet, ends_three}
 
 -- such bytes begin with two zero bytes
 begins-first : (a : ℕ) (w : List ℕ) → is_zero a ≡ false → begins_emulation (a ∷ w) ≡ false

@@ -3,8 +3,8 @@ use Rattle.std.proofs.Common.{◌≡◌, ◌≢◌, ℕ, suc, ◌+◌, ◌-◌, 
 use Rattle.std.proofs.lemmas.Bool.{false≢true}
 use Rattle.std.proofs.lemmas.List.{get_or-take, get_or-drop, length-take, length-drop}
 use Rattle.std.proofs.Math.Seq.{take-suc}
-use Rattle.mv_defs.specs.Units.{trimmed}
-use Rattle.mv_defs.proofs.Trimmed.{trimmed-zero, trimmed-whole}
+use Rattle.mv_units.specs.Units.{trimmed}
+use Rattle.mv_units.proofs.Trimmed.{trimmed-zero, trimmed-whole}
 
 -- a part with one byte more
 slice-more : (s : List ℕ) (from to : ℕ) → from ≤ to → to < length s → slice_range s from (to + 1) ≡ slice_range s from to ++ get_or s to 0 ∷ []

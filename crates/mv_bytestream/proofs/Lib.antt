@@ -2,7 +2,6 @@ pub mod Closes
 pub mod Codes
 pub mod Emulates
 pub mod Ends
-pub mod Numbers
 pub mod Piece
 pub mod Prevented
 pub mod Run

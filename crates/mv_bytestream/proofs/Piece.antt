@@ -3,17 +3,16 @@ use Rattle.std.proofs.Common.{◌≡◌, ◌⊎◌, inl, inr, ℕ, suc, ◌+◌,
 use Rattle.std.specs.Option.{option_to_list}
 use Rattle.std.proofs.Math.Seq.{take-add, take-length, take-suc}
 use Rattle.std.proofs.lemmas.List.{length-take, length-drop, take-append-drop, take_rest, take-take}
-use Rattle.mv_io.specs.declared.refusal.Refusal.{Refusal}
-use Rattle.mv_defs.specs.Units.{NalUnit}
-use Rattle.mv_defs.specs.Rules.{unit_rules}
-use Rattle.mv_defs.specs.Event.{StartsWith, refusal_shown, whole_units}
-use Rattle.mv_defs.proofs.Shows.{shown-stays, whole-stays}
+use Rattle.mv_rules.specs.declared.refusal.Refusal.{Refusal}
+use Rattle.mv_units.specs.Units.{NalUnit}
+use Rattle.mv_units.specs.Shown.{StartsWith, refusal_shown, whole_units}
+use Rattle.mv_units.proofs.Shows.{shown-stays, whole-stays}
 use Rattle.mv_bytestream.specs.Scan.{StandsFor, TakesToUnit, ShowsAt}
 use Rattle.mv_bytestream.specs.Stages.{IsRunning, Takes, scan_of, waiting_at, has_ended, refusal_at, unit_held}
 use Rattle.mv_bytestream.specs.declared.machine.Machine.{Machine}
 use Rattle.mv_bytestream.specs.declared.machine.Stage.{Stage}
 use Rattle.mv_bytestream.specs.declared.machine.Stage.TheVariants.{Leading, Making, Found, Given, Last, Ended, Refused}
-use Rattle.mv_bytestream.proofs.Numbers.{byte-number}
+use Rattle.mv_units.proofs.Numbers.{byte-number}
 use Rattle.mv_bytestream.proofs.Runs.{none_left}
 
 -- where nothing waits and the input goes on
@@ -36,8 +35,8 @@ running-goes_on Ended is = absurd is
 running-goes_on (Refused r) is = absurd is
 
 -- what a running machine stands for shows nothing, and its units were all handed out
-pub quiet-so_far : (m : Machine) (s : List ℕ) → IsRunning m.stage → StandsFor (scan_of m) s → refusal_shown unit_rules false s ≡ None
-quiet-so_far m s is h = subst (λ e. refusal_shown unit_rules e s ≡ None) (running-goes_on m.stage is) h.accepted
+pub quiet-so_far : (m : Machine) (s : List ℕ) → IsRunning m.stage → StandsFor (scan_of m) s → refusal_shown false s ≡ None
+quiet-so_far m s is h = subst (λ e. refusal_shown e s ≡ None) (running-goes_on m.stage is) h.accepted
 
 units-so_far : (m : Machine) (s : List ℕ) → IsRunning m.stage → StandsFor (scan_of m) s → m.given ≡ length (whole_units false s)
 units-so_far m s is h =
@@ -69,16 +68,16 @@ whole-before s piece n k low same =
     starts-equal (whole_units false s) (whole_units false (s ++ take k piece)) first (omega arith)
 
 -- no refusal was shown before
-pub quiet-before : (s piece : List ℕ) (n k : ℕ) → k ≤ n → refusal_shown unit_rules false (s ++ take n piece) ≡ None → refusal_shown unit_rules false (s ++ take k piece) ≡ None
-quiet-before s piece n k low none = go (refusal_shown unit_rules false (s ++ take k piece)) refl
+pub quiet-before : (s piece : List ℕ) (n k : ℕ) → k ≤ n → refusal_shown false (s ++ take n piece) ≡ None → refusal_shown false (s ++ take k piece) ≡ None
+quiet-before s piece n k low none = go (refusal_shown false (s ++ take k piece)) refl
   where
     more : (s ++ take k piece) ++ drop k (take n piece) ≡ s ++ take n piece
     more = append_assoc s (take k piece) (drop k (take n piece)) ∙ ap (λ x. s ++ x) (sym (take-split k n piece low))
 
-    go : (o : Option Refusal) → refusal_shown unit_rules false (s ++ take k piece) ≡ o → o ≡ None
+    go : (o : Option Refusal) → refusal_shown false (s ++ take k piece) ≡ o → o ≡ None
     go None is = refl
     go (Some r) is =
-        let still : refusal_shown unit_rules false (s ++ take n piece) ≡ Some r = ap (refusal_shown unit_rules false) (sym more) ∙ shown-stays [] (s ++ take k piece) (drop k (take n piece)) r is in
+        let still : refusal_shown false (s ++ take n piece) ≡ Some r = ap (refusal_shown false) (sym more) ∙ shown-stays (s ++ take k piece) (drop k (take n piece)) r is in
         absurd (let no : None ≡ Some r = sym none ∙ still in cc)
 
 -- a machine that stood for s stands for it with the first n bytes of the piece
@@ -123,7 +122,7 @@ shows-at old mid new piece n r low first run given h more s is =
       record {
         some = omega arith;
         within = omega arith;
-        shown = ap (refusal_shown unit_rules false) (sym (one-byte s piece n low)) ∙ shown;
+        shown = ap (refusal_shown false) (sym (one-byte s piece n low)) ∙ shown;
         before = λ k below. quiet-before s piece n k (omega arith) quiet;
         unit = byte-number (s ++ take n piece) (get_or piece n 0) r quiet shown ∙ sym (units-so_far mid (s ++ take n piece) run (h s is)) ∙ given ∙ units-so_far old s first is;
       },

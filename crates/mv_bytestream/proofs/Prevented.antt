@@ -4,8 +4,8 @@ use Rattle.std.proofs.lemmas.Bool.{and_parts, eqb-true, le-leb, lt-leb}
 use Rattle.std.proofs.lemmas.Bool.Decides.{nat_tests}
 use Rattle.std.proofs.lemmas.List.{length-drop, drop-drop, take_rest}
 use Rattle.memchr.specs.Find.{OccursAt, Nowhere}
-use Rattle.mv_defs.specs.Escapes.{both_zero, unescaped, payload, escaped}
-use Rattle.mv_defs.proofs.Escaped.{choice, and-false, both_zero-second, unescaped-drops, unescaped-keeps, escaped-puts, escaped-keeps, escaped-stops}
+use Rattle.mv_units.specs.Escapes.{both_zero, unescaped, payload, escaped}
+use Rattle.mv_units.proofs.Escaped.{choice, and-false, both_zero-second, unescaped-drops, unescaped-keeps, escaped-puts, escaped-keeps, escaped-stops}
 
 -- two zero bytes, and a 03 behind them
 abbrev pub zeros : List ℕ

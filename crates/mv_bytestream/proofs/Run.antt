@@ -3,9 +3,9 @@ use Rattle.std.proofs.Common.{◌≡◌, ◌≢◌, ℕ, zero, suc, ◌+◌, ◌
 use Rattle.std.proofs.lemmas.Bool.{or_from, eqb-true}
 use Rattle.std.proofs.lemmas.List.{get_or-take, length-take-le}
 use Rattle.memchr.specs.Find.{OccursAt, Nowhere}
-use Rattle.mv_defs.specs.Units.{has_code, trimmed}
-use Rattle.mv_defs.specs.Rules.{begins_emulation, above_three, has_emulation}
-use Rattle.mv_defs.proofs.Trimmed.{trimmed-whole}
+use Rattle.mv_units.specs.Units.{has_code, trimmed}
+use Rattle.mv_units.specs.Rules.{begins_emulation, above_three, has_emulation}
+use Rattle.mv_units.proofs.Trimmed.{trimmed-whole}
 
 abbrev two_zeros : List ℕ
 two_zeros = 0 ∷ 0 ∷ []

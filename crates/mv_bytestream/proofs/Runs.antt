@@ -4,20 +4,16 @@ use Rattle.std.specs.List.{position_from}
 use Rattle.std.specs.Option.{option_map, option_or}
 use Rattle.std.proofs.Math.Seq.{drop-length}
 use Rattle.std.proofs.lemmas.List.{replicate_more}
-use Rattle.mv_io.specs.declared.refusal.Refusal.{Refusal}
-use Rattle.mv_defs.specs.Units.{is_zero, start_code, pieces, joined, NalUnit}
-use Rattle.mv_defs.specs.Facts.{Fact, fact}
-use Rattle.mv_defs.specs.Head.{head}
-use Rattle.mv_defs.specs.Rules.{unit_rules}
-use Rattle.mv_defs.specs.Verdict.{refusal_by, verdict_by, refused_leading}
-use Rattle.mv_defs.specs.Event.{last, early_rules, refusal_shown}
-use Rattle.mv_defs.proofs.Behind.{IsTrimmed}
-use Rattle.mv_defs.proofs.Framed.{has_code-zero}
-use Rattle.mv_defs.proofs.Longer.{span}
-use Rattle.mv_defs.proofs.Pieces.{pieces-clean, pieces_split}
-use Rattle.mv_defs.proofs.Shown.{Open, opens, pieces-more, open-clean, before, behind, making_of, last-end, last-is, late, front_shown, shown-is, whole-is}
-use Rattle.mv_defs.proofs.Silent.{nothing_at, no_front}
-use Rattle.mv_defs.proofs.Trimmed.{trimmed-zero}
+use Rattle.mv_rules.specs.declared.refusal.Refusal.{Refusal}
+use Rattle.mv_units.specs.Units.{is_zero, start_code, pieces, joined, NalUnit}
+use Rattle.mv_units.specs.Shown.{last, refused_leading, early_refusal, first_refusal, refusal_shown}
+use Rattle.mv_units.proofs.Behind.{IsTrimmed}
+use Rattle.mv_units.proofs.Framed.{has_code-zero}
+use Rattle.mv_units.proofs.Longer.{span}
+use Rattle.mv_units.proofs.Pieces.{pieces-clean, pieces_split}
+use Rattle.mv_units.proofs.Shown.{Open, opens, pieces-more, open-clean, before, behind, making_of, last-end, last-is, late, front_shown, shown-is, whole-is}
+use Rattle.mv_units.proofs.Silent.{nothing_at, no_front}
+use Rattle.mv_units.proofs.Trimmed.{trimmed-zero}
 use Rattle.mv_bytestream.specs.Scan.{Scan, StandsFor, Keeps, bytes_of}
 
 -- a scanner in which no unit waits, whose input goes on and that wasn't refused
@@ -30,7 +26,7 @@ pub record Runs (s : List ℕ) (cs : List (List ℕ)) (p : List ℕ) (fed given 
   pub unit_is : making_of cs p ≡ making
   pub piece : p ≡ bytes_of making ++ replicate z 0
   pub front_none : front_shown (cs ++ p ∷ []) ≡ None
-  pub closed_none : verdict_by unit_rules (before cs) ≡ None
+  pub closed_none : first_refusal (before cs) ≡ None
   pub late_none : late cs p ≡ None
   pub number : given ≡ length (before cs)
   pub count : fed ≡ length s
@@ -50,7 +46,7 @@ runs s fed given making z h = go (opens s)
     go : (cs : List (List ℕ)) × (p : List ℕ) × Open s cs p → SomeRuns s fed given making z
     go (cs, p, is) =
         let keeps = h.keeps refl in
-        let quiet = nothing_at (front_shown (cs ++ p ∷ [])) (verdict_by unit_rules (before cs)) (late cs p) (sym (shown-is unit_rules s cs p is) ∙ h.accepted) in
+        let quiet = nothing_at (front_shown (cs ++ p ∷ [])) (first_refusal (before cs)) (late cs p) (sym (shown-is s cs p is) ∙ h.accepted) in
         let same : Some p ≡ Some (bytes_of making ++ replicate z 0) = sym (ap last is ∙ last-end cs p) ∙ keeps.piece in (
           cs,
           p,
@@ -78,7 +74,7 @@ keeps_at s cs p making z is m e = record {
 pub runs-stands : (s : List ℕ) (cs : List (List ℕ)) (p : List ℕ) (fed given : ℕ) (making : Option NalUnit) (z : ℕ) → Runs s cs p fed given making z → StandsFor (running fed given making z) s
 runs-stands s cs p fed given making z h = record {
   fed = h.count;
-  accepted = shown-is unit_rules s cs p h.opened ∙ quiet_at _ _ _ h.front_none h.closed_none h.late_none;
+  accepted = shown-is s cs p h.opened ∙ quiet_at _ _ _ h.front_none h.closed_none h.late_none;
   given = subst (λ us. given ≤ length us) (sym (whole-is s cs p h.opened)) (let same : given ≡ length (before cs) = h.number in omega arith);
   waiting = ap (drop given) (whole-is s cs p h.opened) ∙ ap (λ n. drop n (before cs)) h.number ∙ drop-length (before cs);
   keeps = λ _. keeps_at s cs p making z h.opened h.unit_is h.piece;
@@ -152,33 +148,33 @@ runs-zero s cs p fed given making z h = record {
 
     same_late : (cs : List (List ℕ)) → late cs (p ++ 0 ∷ []) ≡ late cs p
     same_late [] = refl
-    same_late (c ∷ cs) = ap (λ b. refusal_by early_rules (fact (before (c ∷ cs)) (record { place = span (c ∷ cs) 0; bytes = b }))) (trimmed-zero p)
+    same_late (c ∷ cs) = ap (λ b. early_refusal (length (before (c ∷ cs))) ((record { place = span (c ∷ cs) 0; bytes = b }))) (trimmed-zero p)
 
 -- a byte before the first code that may not stand there
 pub leading-shown : (s : List ℕ) (p : List ℕ) (fed given : ℕ) (making : Option NalUnit) (z b : ℕ) → Runs s [] p fed given making z →
-    is_zero b ≡ false → pieces (p ++ b ∷ []) ≡ (p ++ b ∷ []) ∷ [] → refusal_shown unit_rules false (s ++ b ∷ []) ≡ Some (refused_leading fed)
+    is_zero b ≡ false → pieces (p ++ b ∷ []) ≡ (p ++ b ∷ []) ∷ [] → refusal_shown false (s ++ b ∷ []) ≡ Some (refused_leading fed)
 leading-shown s p fed given making z b h is clean =
     let n : 0 + length p ≡ fed = let l : span [] 0 + length p ≡ length s = open-length s [] p h.opened in let f : fed ≡ length s = h.count in omega arith in
-    shown-is unit_rules (s ++ b ∷ []) [] (p ++ b ∷ []) (pieces-more s (b ∷ []) [] p h.opened ∙ clean)
-    ∙ ap (λ o. option_or (option_map refused_leading o) (option_or (verdict_by unit_rules (before [])) None)) (leading-first 0 p b (no_front _ h.front_none) is ∙ ap Some n)
+    shown-is (s ++ b ∷ []) [] (p ++ b ∷ []) (pieces-more s (b ∷ []) [] p h.opened ∙ clean)
+    ∙ ap (λ o. option_or (option_map refused_leading o) (option_or (first_refusal (before [])) None)) (leading-first 0 p b (no_front _ h.front_none) is ∙ ap Some n)
 
 -- bytes of a unit: what they show, and what stands where they show nothing
-abbrev pub fact_at : ℕ → ℕ → List ℕ → Fact
-fact_at given place bytes = record { number = given; unit = record { place = place; bytes = bytes }; head = head bytes }
+abbrev pub unit_of : ℕ → List ℕ → NalUnit
+unit_of place bytes = record { place = place; bytes = bytes }
 
 pub content-shown : (s : List ℕ) (c : List ℕ) (cs : List (List ℕ)) (p : List ℕ) (fed given : ℕ) (u : NalUnit) (z : ℕ) (w : List ℕ) → Runs s (c ∷ cs) p fed given (Some u) z →
-    pieces (p ++ w) ≡ (p ++ w) ∷ [] → IsTrimmed (p ++ w) → refusal_shown unit_rules false (s ++ w) ≡ refusal_by early_rules (fact_at given u.place (p ++ w))
+    pieces (p ++ w) ≡ (p ++ w) ∷ [] → IsTrimmed (p ++ w) → refusal_shown false (s ++ w) ≡ early_refusal given (unit_of u.place (p ++ w))
 content-shown s c cs p fed given u z w h clean ends =
     let place : span (c ∷ cs) 0 ≡ u.place = let m : Some (behind (c ∷ cs) p) ≡ Some u = h.unit_is in let same : behind (c ∷ cs) p ≡ u = cc in ap (λ (u : NalUnit). u.place) same in
-    shown-is unit_rules (s ++ w) (c ∷ cs) (p ++ w) (pieces-more s w (c ∷ cs) p h.opened ∙ ap (λ qs. (c ∷ cs) ++ qs) clean)
-    ∙ ap (λ f. option_or f (option_or (verdict_by unit_rules (before (c ∷ cs))) (late (c ∷ cs) (p ++ w)))) h.front_none
+    shown-is (s ++ w) (c ∷ cs) (p ++ w) (pieces-more s w (c ∷ cs) p h.opened ∙ ap (λ qs. (c ∷ cs) ++ qs) clean)
+    ∙ ap (λ f. option_or f (option_or (first_refusal (before (c ∷ cs))) (late (c ∷ cs) (p ++ w)))) h.front_none
     ∙ ap (λ v. option_or v (late (c ∷ cs) (p ++ w))) h.closed_none
-    ∙ ap (λ b. refusal_by early_rules (fact (before (c ∷ cs)) (record { place = span (c ∷ cs) 0; bytes = b }))) ends
-    ∙ ap (λ n. refusal_by early_rules (fact_at n (span (c ∷ cs) 0) (p ++ w))) (sym h.number)
-    ∙ ap (λ at. refusal_by early_rules (fact_at given at (p ++ w))) place
+    ∙ ap (λ b. early_refusal (length (before (c ∷ cs))) ((record { place = span (c ∷ cs) 0; bytes = b }))) ends
+    ∙ ap (λ n. early_refusal n (unit_of (span (c ∷ cs) 0) (p ++ w))) (sym h.number)
+    ∙ ap (λ at. early_refusal given (unit_of at (p ++ w))) place
 
 pub runs-content : (s : List ℕ) (c : List ℕ) (cs : List (List ℕ)) (p : List ℕ) (fed given : ℕ) (u : NalUnit) (z : ℕ) (w : List ℕ) → Runs s (c ∷ cs) p fed given (Some u) z →
-    pieces (p ++ w) ≡ (p ++ w) ∷ [] → IsTrimmed (p ++ w) → refusal_by early_rules (fact_at given u.place (p ++ w)) ≡ None →
+    pieces (p ++ w) ≡ (p ++ w) ∷ [] → IsTrimmed (p ++ w) → early_refusal given (unit_of u.place (p ++ w)) ≡ None →
     Runs (s ++ w) (c ∷ cs) (p ++ w) (fed + length w) given (Some (record { place = u.place; bytes = p ++ w })) 0
 runs-content s c cs p fed given u z w h clean ends none =
     let same : behind (c ∷ cs) p ≡ u = let m : Some (behind (c ∷ cs) p) ≡ Some u = h.unit_is in cc in
@@ -190,9 +186,9 @@ runs-content s c cs p fed given u z w h clean ends none =
       front_none = h.front_none;
       closed_none = h.closed_none;
       late_none =
-          ap (λ b. refusal_by early_rules (fact (before (c ∷ cs)) (record { place = span (c ∷ cs) 0; bytes = b }))) ends
-          ∙ ap (λ n. refusal_by early_rules (fact_at n (span (c ∷ cs) 0) (p ++ w))) (sym h.number)
-          ∙ ap (λ at. refusal_by early_rules (fact_at given at (p ++ w))) place
+          ap (λ b. early_refusal (length (before (c ∷ cs))) ((record { place = span (c ∷ cs) 0; bytes = b }))) ends
+          ∙ ap (λ n. early_refusal n (unit_of (span (c ∷ cs) 0) (p ++ w))) (sym h.number)
+          ∙ ap (λ at. early_refusal given (unit_of at (p ++ w))) place
           ∙ none;
       number = h.number;
       count = let f : fed ≡ length s = h.count in omega (arith, length-append s w);

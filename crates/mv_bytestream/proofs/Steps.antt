@@ -1,14 +1,14 @@
 -- One step from a start code to the next.
 use Rattle.std.proofs.Common.{◌≡◌, ℕ, ◌+◌, ◌-◌, ◌<◌, ◌≤◌, false, not, List, [], ◌∷◌, ◌++◌, length, take, drop, map, All, ◌⊎◌, inl, inr, refl, ap, sym, ◌∙◌, subst, arith, slice_range, append_assoc, Option, Some, IsSomeAnd, Result, Ok, Err, OnOk}
-use Rattle.mv_defs.specs.Verdict.{refused_leading}
+use Rattle.mv_units.specs.Shown.{refused_leading}
 use Rattle.std.specs.List.{position_from}
 use Rattle.std.proofs.lemmas.List.{length-take, length-drop, map-append}
 use Rattle.std.proofs.lemmas.List.Elements.{All-append, All-cons, All-nil}
 use Rattle.std.proofs.lemmas.List.Folds.{drop_split}
 use Rattle.std.proofs.Math.Seq.{drop-length}
 use Rattle.std.proofs.Math.Nat.{eq-or-lt_of_le}
-use Rattle.mv_defs.specs.Units.{start_code, has_code, is_zero, front as front_piece, leading, trimmed, NalUnit, units, units_at, pieces, placed}
-use Rattle.mv_defs.proofs.Parts.{BeginsWithCode, front-is, units_at-front, units_at-piece}
+use Rattle.mv_units.specs.Units.{start_code, has_code, is_zero, front as front_piece, leading, trimmed, NalUnit, units, units_at, pieces, placed}
+use Rattle.mv_units.proofs.Parts.{BeginsWithCode, front-is, units_at-front, units_at-piece}
 use Rattle.mv_bytestream.specs.declared.splitting.Span.{Span}
 use Rattle.mv_bytestream.specs.Spans.{CodeOrEnd, LiesIn, unit_at}
 

@@ -2,19 +2,16 @@
 use Rattle.std.proofs.Common.{◌≡◌, ◌≢◌, ℕ, zero, suc, ◌+◌, ◌<◌, ◌≤◌, Bool, true, false, cond, ◌&&◌, nat_le, nat_lt, nat_eq, List, [], ◌∷◌, ◌++◌, length, take, replicate, get_or, Option, None, Some, IfNone, vec_len, refl, ap, sym, ◌∙◌, subst, arith, length-append, append_assoc, append-nil, if◌then◌else◌}
 use Rattle.std.specs.Option.{option_map}
 use Rattle.std.proofs.lemmas.Bool.{true≢false, and_parts, eqb-true, leb-true, leb-false, ne_eqb, le-ltb, lt-ltb}
-use Rattle.mv_io.specs.declared.rule.Rule.{Rule}
-use Rattle.mv_io.specs.declared.refusal.Refusal.{Refusal}
-use Rattle.mv_defs.specs.Units.{has_code, is_zero, pieces, trimmed, NalUnit}
-use Rattle.mv_defs.specs.Facts.{Fact}
-use Rattle.mv_defs.specs.Rules.{longest_unit, above_three, short_unit, has_emulation, emulation, long_unit, unit_rules}
-use Rattle.mv_defs.specs.Verdict.{refusal_by, refused_leading}
-use Rattle.mv_defs.specs.Event.{early_rules, refusal_shown}
-use Rattle.mv_defs.proofs.Behind.{IsTrimmed, lead_all, pieces-behind, has_code-front, trimmed-append, trimmed-twice}
-use Rattle.mv_defs.proofs.Early.{refused, early_of, early-is}
-use Rattle.mv_defs.proofs.Pieces.{pieces-clean}
-use Rattle.mv_defs.proofs.Shown.{open-clean, behind}
-use Rattle.mv_defs.proofs.Silent.{has_code-other, early-none, take-short}
-use Rattle.mv_bytestream.specs.Bytes.{IsQuiet, early_rule, ends_three}
+use Rattle.mv_rules.specs.declared.rule.Rule.{Rule}
+use Rattle.mv_rules.specs.declared.refusal.Refusal.{Refusal}
+use Rattle.mv_units.specs.Units.{has_code, is_zero, pieces, trimmed, NalUnit}
+use Rattle.mv_units.specs.Rules.{longest_unit, above_three, short_unit, has_emulation, long_unit, early_rule}
+use Rattle.mv_units.specs.Shown.{refused, refused_leading, early_refusal, refusal_shown}
+use Rattle.mv_units.proofs.Behind.{IsTrimmed, lead_all, pieces-behind, has_code-front, trimmed-append, trimmed-twice}
+use Rattle.mv_units.proofs.Pieces.{pieces-clean}
+use Rattle.mv_units.proofs.Shown.{open-clean, behind}
+use Rattle.mv_units.proofs.Silent.{has_code-other, early-none, none-of, take-short}
+use Rattle.mv_bytestream.specs.Bytes.{IsQuiet, ends_three}
 use Rattle.mv_bytestream.specs.Scan.{Scan, StandsFor}
 use Rattle.mv_bytestream.specs.Stages.{IsRunning, Takes, making_at, scan_of, unit_held, has_ended, waiting_at, zeros_at, refusal_at}
 use Rattle.mv_bytestream.specs.declared.machine.Machine.{Machine}
@@ -23,7 +20,7 @@ use Rattle.mv_bytestream.specs.declared.machine.Stage.TheVariants.{Leading, Maki
 use Rattle.mv_bytestream.proofs.Closes.{last-short, last-stands, none-stands, runs-first, short-shown, closed-stands, making-is, making-quiet}
 use Rattle.mv_bytestream.proofs.Emulates.{emulation-behind}
 use Rattle.mv_bytestream.proofs.Ends.{nonzero-last}
-use Rattle.mv_bytestream.proofs.Runs.{Runs, SomeRuns, running, runs, runs-stands, runs-zero, leading-shown, content-shown, runs-content, fact_at}
+use Rattle.mv_bytestream.proofs.Runs.{Runs, SomeRuns, running, runs, runs-stands, runs-zero, leading-shown, content-shown, runs-content, unit_of}
 
 -- a machine as a scanner, at a stage that is known
 abbrev pub scan_at : Stage → Machine → Scan
@@ -116,7 +113,7 @@ pub leading-refuses : (m n : Machine) (b : ℕ) → m.stage ≡ Leading → b �
 unfolding trimmed has_code
 leading-refuses m n b here nonzero h s stands = go (runs_at m None s (at m Leading here) stands)
   where
-    go : SomeRuns s m.fed m.given None m.zeros → refusal_shown unit_rules false (s ++ b ∷ []) ≡ Some (refused_leading m.fed)
+    go : SomeRuns s m.fed m.given None m.zeros → refusal_shown false (s ++ b ∷ []) ≡ Some (refused_leading m.fed)
     go ([], p, r) = leading-shown s p m.fed m.given None m.zeros b r (is_nonzero b nonzero) (content-clean [] m.zeros b p r.piece refl (open-clean s [] p r.opened) h)
     go (c ∷ cs, p, r) = absurd (no_unit s c cs p m.fed m.given m.zeros r)
 
@@ -129,17 +126,12 @@ trims s c cs p fed given u z r =
 pub is_quiet : (s : List ℕ) (c : List ℕ) (cs : List (List ℕ)) (p : List ℕ) (fed given : ℕ) (u : NalUnit) (z : ℕ) → Runs s (c ∷ cs) p fed given (Some u) z → length u.bytes ≤ longest_unit → IsQuiet u.bytes
 is_quiet s c cs p fed given u z r fits = record {
   ends = trims s c cs p fed given u z r;
-  quiet = ap has_emulation (sym (take-short longest_unit u.bytes fits)) ∙ (early-none (fact_at given u.place u.bytes) (making-quiet s c cs p fed given u z r)).0;
+  quiet = ap has_emulation (sym (take-short longest_unit u.bytes fits)) ∙ (early-none u.bytes (none-of (refused given u) (early_rule u.bytes) (making-quiet s c cs p fed given u z r))).0;
 }
 
--- what the bytes of a fact show early
-pub by-rule : (f : Fact) (o : Option Rule) → early_rule f.unit.bytes ≡ o → refusal_by early_rules f ≡ option_map (refused f) o
-by-rule f o is = early-is f ∙ go (emulation f.unit.bytes) (long_unit f.unit.bytes) ∙ ap (option_map (refused f)) is
-  where
-    go : (e l : Bool) → early_of f e l ≡ option_map (refused f) (cond e (Some Rule.Emulation) (cond l (Some Rule.Long) None))
-    go true l = refl
-    go false true = refl
-    go false false = refl
+-- what the bytes of a unit show early
+pub by-rule : (n : ℕ) (u : NalUnit) (o : Option Rule) → early_rule u.bytes ≡ o → early_refusal n u ≡ option_map (refused n u) o
+by-rule n u o is = ap (option_map (refused n u)) is
 
 -- a byte of a unit: refused, or taken
 abbrev Shown : Machine → ℕ → Option Rule → Type 0
@@ -165,12 +157,12 @@ pub unit-refuses : (m n : Machine) (b : ℕ) (rule : Rule) → m.stage ≡ Makin
     Takes m n (b ∷ []) (Some (record { unit = m.given; byte = m.place; rule = rule }))
 unit-refuses m n b rule here fits nonzero h shown s stands = go (runs_at m (Some (unit_held m)) s (at m Making here) stands)
   where
-    go : SomeRuns s m.fed m.given (Some (unit_held m)) m.zeros → refusal_shown unit_rules false (s ++ b ∷ []) ≡ Some (record { unit = m.given; byte = m.place; rule = rule })
+    go : SomeRuns s m.fed m.given (Some (unit_held m)) m.zeros → refusal_shown false (s ++ b ∷ []) ≡ Some (record { unit = m.given; byte = m.place; rule = rule })
     go ([], p, r) = absurd (some_unit s p m.fed m.given m.zeros (unit_held m) r)
     go (c ∷ cs, p, r) =
         let parts = content m b s c cs p r nonzero h in
         content-shown s c cs p m.fed m.given (unit_held m) m.zeros (b ∷ []) r parts.1 parts.2
-        ∙ by-rule (fact_at m.given m.place (p ++ b ∷ [])) (Some rule) (ap early_rule parts.0 ∙ sym (shown (is_quiet s c cs p m.fed m.given (unit_held m) m.zeros r fits)))
+        ∙ by-rule m.given (unit_of m.place (p ++ b ∷ [])) (Some rule) (ap early_rule parts.0 ∙ sym (shown (is_quiet s c cs p m.fed m.given (unit_held m) m.zeros r fits)))
 
 pub unit-takes : (m n : Machine) (b : ℕ) → m.stage ≡ Making → length m.unit.items ≤ longest_unit → b ≢ 0 → (nat_eq b 1 && nat_le 2 m.zeros) ≡ false → Shown m b None →
     scan_of n ≡ running (m.fed + 1) m.given (Some (record { place = m.place; bytes = m.unit.items ++ (replicate m.zeros 0 ++ b ∷ []) })) 0 → Takes m n (b ∷ []) None
@@ -180,8 +172,8 @@ unit-takes m n b here fits nonzero h shown there s stands = go (runs_at m (Some 
     go ([], p, r) = absurd (some_unit s p m.fed m.given m.zeros (unit_held m) r)
     go (c ∷ cs, p, r) =
         let parts = content m b s c cs p r nonzero h in
-        let none : refusal_by early_rules (fact_at m.given m.place (p ++ b ∷ [])) ≡ None =
-        by-rule (fact_at m.given m.place (p ++ b ∷ [])) None (ap early_rule parts.0 ∙ sym (shown (is_quiet s c cs p m.fed m.given (unit_held m) m.zeros r fits))) in
+        let none : early_refusal m.given (unit_of m.place (p ++ b ∷ [])) ≡ None =
+        by-rule m.given (unit_of m.place (p ++ b ∷ [])) None (ap early_rule parts.0 ∙ sym (shown (is_quiet s c cs p m.fed m.given (unit_held m) m.zeros r fits))) in
         stands_at n _ (s ++ b ∷ []) (there ∙ ap (λ w. running (m.fed + 1) m.given (Some (record { place = m.place; bytes = w })) 0) (sym parts.0))
         (runs-stands (s ++ b ∷ []) (c ∷ cs) (p ++ b ∷ []) (m.fed + 1) m.given _ 0 (runs-content s c cs p m.fed m.given (unit_held m) m.zeros (b ∷ []) r parts.1 parts.2 none))
 
@@ -189,9 +181,9 @@ unit-takes m n b here fits nonzero h shown there s stands = go (runs_at m (Some 
 pub short-refuses : (m n : Machine) (b : ℕ) → m.stage ≡ Making → b ≡ 1 → 2 ≤ m.zeros → short_unit m.unit.items ≡ true → Takes m n (b ∷ []) (Some (record { unit = m.given; byte = m.place; rule = Rule.Short }))
 short-refuses m n b here one low short s stands = go (runs_at m (Some (unit_held m)) s (at m Making here) stands)
   where
-    go : SomeRuns s m.fed m.given (Some (unit_held m)) m.zeros → refusal_shown unit_rules false (s ++ b ∷ []) ≡ Some (record { unit = m.given; byte = m.place; rule = Rule.Short })
+    go : SomeRuns s m.fed m.given (Some (unit_held m)) m.zeros → refusal_shown false (s ++ b ∷ []) ≡ Some (record { unit = m.given; byte = m.place; rule = Rule.Short })
     go ([], p, r) = absurd (some_unit s p m.fed m.given m.zeros (unit_held m) r)
-    go (c ∷ cs, p, r) = ap (λ b. refusal_shown unit_rules false (s ++ b ∷ [])) one ∙ short-shown s c cs p m.fed m.given (unit_held m) m.zeros r low short
+    go (c ∷ cs, p, r) = ap (λ b. refusal_shown false (s ++ b ∷ [])) one ∙ short-shown s c cs p m.fed m.given (unit_held m) m.zeros r low short
 
 pub ends-unit : (m n : Machine) (b : ℕ) → m.stage ≡ Making → b ≡ 1 → 2 ≤ m.zeros → short_unit m.unit.items ≡ false →
     scan_of n ≡ record { fed = m.fed + 1; given = m.given; ended = false; waiting = Some (unit_held m); making = Some (record { place = m.fed + 1; bytes = [] }); zeros = 0; refusal = None } → Takes m n (b ∷ []) None
@@ -217,8 +209,8 @@ run-takes m n w here none fits clean quiet ends three there s stands = go (runs_
         let whole : pieces (u ++ w) ≡ (u ++ w) ∷ [] =
         pieces-behind u w q.ends (subst (λ p. has_code p ≡ false) same (open-clean s (c ∷ cs) p r.opened)) ∙ ap (lead_all u) (pieces-clean w clean) in
         let short : length (u ++ w) ≤ longest_unit = omega (arith, length-append u w) in
-        let none : refusal_by early_rules (fact_at m.given m.place (u ++ w)) ≡ None =
-        by-rule (fact_at m.given m.place (u ++ w)) None
+        let none : early_refusal m.given (unit_of m.place (u ++ w)) ≡ None =
+        by-rule m.given (unit_of m.place (u ++ w)) None
         (ap (λ e. cond e (Some Rule.Emulation) (cond (long_unit (u ++ w)) (Some Rule.Long) None))
         (ap has_emulation (take-short longest_unit (u ++ w) short) ∙ emulation-behind u w q.ends q.quiet three ∙ quiet)
         ∙ ap (λ l. cond l (Some Rule.Long) None) (le-ltb longest_unit (length (u ++ w)) short)) in
@@ -227,7 +219,7 @@ run-takes m n w here none fits clean quiet ends three there s stands = go (runs_
         (runs-content s c cs p m.fed m.given (unit_held m) m.zeros w r
         (subst (λ p. pieces (p ++ w) ≡ (p ++ w) ∷ []) (sym same) whole)
         (subst (λ p. IsTrimmed (p ++ w)) (sym same) (trimmed-append u w q.ends ∙ ap (λ x. u ++ x) ends))
-        (subst (λ p. refusal_by early_rules (fact_at m.given m.place (p ++ w)) ≡ None) (sym same) none)))
+        (subst (λ p. early_refusal m.given (unit_of m.place (p ++ w)) ≡ None) (sym same) none)))
 
 pub nothing-takes : (m : Machine) → Takes m m [] None
 nothing-takes m s h = subst (StandsFor (scan_of m)) (sym (append-nil s)) h
@@ -333,10 +325,10 @@ ends-none m n here there s stands = go (runs_at m None s (at m Leading here) sta
     go ([], p, r) = stands_at n _ s (ap scan_of there) (none-stands s p m.fed m.given m.zeros m.zeros r)
     go (c ∷ cs, p, r) = absurd (no_unit s c cs p m.fed m.given m.zeros r)
 
-pub ends-short : (m : Machine) → m.stage ≡ Making → short_unit m.unit.items ≡ true → (s : List ℕ) → StandsFor (scan_of m) s → refusal_shown unit_rules true s ≡ Some (record { unit = m.given; byte = m.place; rule = Rule.Short })
+pub ends-short : (m : Machine) → m.stage ≡ Making → short_unit m.unit.items ≡ true → (s : List ℕ) → StandsFor (scan_of m) s → refusal_shown true s ≡ Some (record { unit = m.given; byte = m.place; rule = Rule.Short })
 ends-short m here short s stands = go (runs_at m (Some (unit_held m)) s (at m Making here) stands)
   where
-    go : SomeRuns s m.fed m.given (Some (unit_held m)) m.zeros → refusal_shown unit_rules true s ≡ Some (record { unit = m.given; byte = m.place; rule = Rule.Short })
+    go : SomeRuns s m.fed m.given (Some (unit_held m)) m.zeros → refusal_shown true s ≡ Some (record { unit = m.given; byte = m.place; rule = Rule.Short })
     go ([], p, r) = absurd (some_unit s p m.fed m.given m.zeros (unit_held m) r)
     go (c ∷ cs, p, r) = last-short s c cs p m.fed m.given (unit_held m) m.zeros r short
 

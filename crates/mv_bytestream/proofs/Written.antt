@@ -5,7 +5,7 @@ use Rattle.std.proofs.lemmas.List.{take-append-le}
 use Rattle.std.proofs.Math.Seq.{take-append-add}
 use Rattle.mv_io.specs.Sink.{Appends, AppendsPrefix}
 use Rattle.mv_io.proofs.Appends.{Appends-then}
-use Rattle.mv_defs.specs.Framing.{frame, long_code}
+use Rattle.mv_units.specs.Framing.{frame, long_code}
 
 -- the first of two pieces failed
 pub AppendsPrefix-first : (old new : Option (List ℕ)) (xs ys : List ℕ) → AppendsPrefix old new xs → AppendsPrefix old new (xs ++ ys)

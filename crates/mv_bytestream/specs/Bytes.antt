@@ -1,8 +1,7 @@
 -- What a byte, or a run of bytes, shows behind a unit in the making.
-use Rattle.std.specs.Prelude.{◌≡◌, ℕ, ◌-◌, Bool, false, cond, ◌==◌, ◌&&◌, nat_le, List, length, slice_index, Option, None, Some}
-use Rattle.mv_io.specs.declared.rule.Rule.{Rule}
-use Rattle.mv_defs.specs.Units.{trimmed}
-use Rattle.mv_defs.specs.Rules.{has_emulation, emulation, long_unit}
+use Rattle.std.specs.Prelude.{◌≡◌, ℕ, ◌-◌, Bool, false, ◌==◌, ◌&&◌, nat_le, List, length, slice_index}
+use Rattle.mv_units.specs.Units.{trimmed}
+use Rattle.mv_units.specs.Rules.{has_emulation}
 
 -- the bytes of a unit so far, less the zero bytes at the end, none of which may stand nowhere
 pub record IsQuiet (u : List ℕ) : Type 0 where
@@ -14,7 +13,3 @@ abbrev pub ends_three : List ℕ → Bool
 ends_three u =
     nat_le 3 (length u) && (slice_index u (length u - 3) == 0) && (slice_index u (length u - 2) == 0)
     && (slice_index u (length u - 1) == 3)
-
--- the least of the rules Emulation and Long that bytes of a unit break, if they do
-abbrev pub early_rule : List ℕ → Option Rule
-early_rule u = cond (emulation u) (Some Rule.Emulation) (cond (long_unit u) (Some Rule.Long) None)

@@ -2,7 +2,7 @@
 use Rattle.std.specs.Prelude.{◌≡◌, ℕ, List}
 use Rattle.std.specs.Borrow.{Fml, MutBor}
 use Rattle.std.specs.Io.BufRead.{Rests}
-use Rattle.mv_defs.specs.Units.{NalUnit}
+use Rattle.mv_units.specs.Units.{NalUnit}
 use Rattle.mv_bytestream.specs.Scan.{Scan, StandsFor, handed_out}
 use Rattle.mv_bytestream.specs.declared.scanner.Found.{Found}
 use Rattle.mv_bytestream.specs.contracts.scanner.Scanner.{the_row}

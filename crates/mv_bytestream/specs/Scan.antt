@@ -1,10 +1,9 @@
 -- What a scanner stands for: the bytes fed, the units handed out, and what of the bytes it keeps.
 use Rattle.std.specs.Prelude.{◌≡◌, ℕ, ◌≤◌, ◌<◌, ◌+◌, Bool, true, false, List, [], ◌++◌, length, take, drop, replicate, Option, None, Some}
 use Rattle.std.specs.Option.{option_to_list}
-use Rattle.mv_io.specs.declared.refusal.Refusal.{Refusal}
-use Rattle.mv_defs.specs.Units.{NalUnit, pieces, units}
-use Rattle.mv_defs.specs.Event.{last, refusal_shown, whole_units}
-use Rattle.mv_defs.specs.Rules.{unit_rules}
+use Rattle.mv_rules.specs.declared.refusal.Refusal.{Refusal}
+use Rattle.mv_units.specs.Units.{NalUnit, pieces, units}
+use Rattle.mv_units.specs.Shown.{last, refusal_shown, whole_units}
 use Rattle.mv_bytestream.specs.declared.splitting.ScanFault.{ScanFault}
 use Rattle.mv_bytestream.specs.declared.splitting.ScanFault.TheVariants.{Refused, Memory}
 
@@ -44,7 +43,7 @@ pub record Keeps (s : List ℕ) (making : Option NalUnit) (zeros : ℕ) : Type 0
 -- refuse, and the units taken whole but those handed out are the one that waits, if one does
 pub record StandsFor (scan : Scan) (s : List ℕ) : Type 0 where
   pub fed : scan.fed ≡ length s
-  pub accepted : refusal_shown unit_rules scan.ended s ≡ None
+  pub accepted : refusal_shown scan.ended s ≡ None
   pub given : scan.given ≤ length (whole_units scan.ended s)
   pub waiting : drop scan.given (whole_units scan.ended s) ≡ option_to_list scan.waiting
   pub keeps : scan.ended ≡ false → Keeps s scan.making scan.zeros
@@ -62,8 +61,8 @@ pub record TakesToUnit (s piece : List ℕ) (n : ℕ) : Type 0 where
 pub record ShowsAt (s piece : List ℕ) (r : Refusal) (n : ℕ) : Type 0 where
   pub some : 0 < n
   pub within : n ≤ length piece
-  pub shown : refusal_shown unit_rules false (s ++ take n piece) ≡ Some r
-  pub before : (k : ℕ) → k < n → refusal_shown unit_rules false (s ++ take k piece) ≡ None
+  pub shown : refusal_shown false (s ++ take n piece) ≡ Some r
+  pub before : (k : ℕ) → k < n → refusal_shown false (s ++ take k piece) ≡ None
   pub unit : r.unit ≡ length (whole_units false s)
 
 -- a scanner that stood for s refuses a piece at the byte that shows it, and nothing waits; after want of
@@ -76,7 +75,7 @@ RefusesPiece old new piece Memory = new ≡ old
 -- bytes that are all show the refusal r, and its unit is the one behind those that they held whole before the
 -- end was known
 pub record RefusedAtEnd (s : List ℕ) (r : Refusal) : Type 0 where
-  pub shown : refusal_shown unit_rules true s ≡ Some r
+  pub shown : refusal_shown true s ≡ Some r
   pub unit : r.unit ≡ length (whole_units false s)
 
 -- a scanner that stood for s refuses it at its end, and nothing waits; after want of memory it is unchanged

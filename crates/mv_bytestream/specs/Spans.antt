@@ -1,8 +1,8 @@
 -- What the spans of a byte string say, and when a string is refused as a whole.
 use Rattle.std.specs.Prelude.{ℕ, ◌≡◌, ◌+◌, ◌<◌, ◌≤◌, List, ◌++◌, drop, length, slice_range, IsSomeAnd}
 use Rattle.std.specs.Bool.{⊤}
-use Rattle.mv_defs.specs.Units.{NalUnit, leading, start_code}
-use Rattle.mv_defs.specs.Verdict.{refused_leading}
+use Rattle.mv_units.specs.Units.{NalUnit, leading, start_code}
+use Rattle.mv_units.specs.Shown.{refused_leading}
 use Rattle.mv_bytestream.specs.declared.splitting.Span.{Span}
 use Rattle.mv_bytestream.specs.declared.splitting.ScanFault.{ScanFault}
 use Rattle.mv_bytestream.specs.declared.splitting.ScanFault.TheVariants.{Refused, Memory}

@@ -1,9 +1,9 @@
 -- A scanner's stage, and what it is to its callers there.
 use Rattle.std.specs.Prelude.{◌≡◌, ℕ, ◌+◌, ◌≤◌, min, Bool, true, false, List, [], ◌++◌, Option, None, Some, MatchOption, ⊤, vec_len, vec_capacity}
-use Rattle.mv_io.specs.declared.refusal.Refusal.{Refusal}
-use Rattle.mv_defs.specs.Units.{NalUnit}
-use Rattle.mv_defs.specs.Rules.{longest_unit, unit_rules}
-use Rattle.mv_defs.specs.Event.{refusal_shown}
+use Rattle.mv_rules.specs.declared.refusal.Refusal.{Refusal}
+use Rattle.mv_units.specs.Units.{NalUnit}
+use Rattle.mv_units.specs.Rules.{longest_unit}
+use Rattle.mv_units.specs.Shown.{refusal_shown}
 use Rattle.mv_bytestream.specs.Scan.{Scan, StandsFor}
 use Rattle.mv_bytestream.specs.declared.machine.Machine.{Machine}
 use Rattle.mv_bytestream.specs.declared.machine.Stage.{Stage}
@@ -88,4 +88,4 @@ HasRoom m n = min (vec_len m.unit + min m.zeros 2 + n) longest_unit ≤ vec_capa
 abbrev pub Takes : Machine → Machine → List ℕ → Option Refusal → Type 0
 Takes old new bytes result =
     (s : List ℕ) → StandsFor (scan_of old) s →
-    MatchOption result (StandsFor (scan_of new) (s ++ bytes)) (λ r. refusal_shown unit_rules false (s ++ bytes) ≡ Some r)
+    MatchOption result (StandsFor (scan_of new) (s ++ bytes)) (λ r. refusal_shown false (s ++ bytes) ≡ Some r)

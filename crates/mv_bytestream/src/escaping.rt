@@ -2,12 +2,12 @@
 #![tactic(auto)]
 
 ghost use Rattle.std.specs.Prelude.{◌≡◌, ◌+◌, ◌*◌, ◌<◌, ◌≤◌, ◌++◌, false, drop, length, slice_range, IfOk, OnOk, IfSome, IfNone};
-ghost use Rattle.mv_defs.specs.Escapes.{escape as unit_of, escaped};
-ghost use Rattle.mv_defs.specs.Rules.{has_emulation};
-ghost use Rattle.mv_defs.specs.Units.{has_code};
+ghost use Rattle.mv_units.specs.Escapes.{escape as unit_of, escaped};
+ghost use Rattle.mv_units.specs.Rules.{has_emulation};
+ghost use Rattle.mv_units.specs.Units.{has_code};
 
 use memchr::memmem;
-use mv_defs::UnitHead;
+use mv_units::UnitHead;
 use std::alloc::{AllocError, Global};
 
 /// Two zero bytes: behind them a byte up to 03, and the end, want an emulation_prevention_three_byte (7.4.2).

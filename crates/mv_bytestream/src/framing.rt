@@ -2,7 +2,7 @@
 #![tactic(auto)]
 
 ghost use Rattle.std.specs.Prelude.{◌∷◌, [], OnOk, OnErr};
-ghost use Rattle.mv_defs.specs.Framing.{frame as framed};
+ghost use Rattle.mv_units.specs.Framing.{frame as framed};
 ghost use Rattle.mv_io.specs.Faults.{HasCause};
 ghost use Rattle.mv_io.specs.Sink.{Appends, AppendsPrefix};
 
@@ -19,9 +19,9 @@ const LONG_CODE: [u8; 4] = [0, 0, 0, 1];
 /// `SinkFailed` where a write failed, so only where the sink's count of faults rose in this call. Then
 /// the sink took the bytes before the failed write, and not all.
 pub fn frame<K: Sink>(sink: &mut K, unit: &[u8]) -> Result<(), SinkFailed>
-    ensures all { OnOk result (Appends (K.taken sink.old) (K.taken sink.new) (framed (unit.now ∷ []))) }
-    ensures failed { OnErr result (AppendsPrefix (K.taken sink.old) (K.taken sink.new) (framed (unit.now ∷ []))) }
-    ensures cause { HasCause (K.faults sink.old) (K.faults sink.new) result }
+    ensures all { OnOk result (Appends (K.state sink.old).taken (K.state sink.new).taken (framed (unit.now ∷ []))) }
+    ensures failed { OnErr result (AppendsPrefix (K.state sink.old).taken (K.state sink.new).taken (framed (unit.now ∷ []))) }
+    ensures cause { HasCause (K.state sink.old).faults (K.state sink.new).faults result }
 {
     match write_all(sink, &LONG_CODE) {
         Ok(()) => write_all(sink, unit),

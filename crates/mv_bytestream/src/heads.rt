@@ -2,10 +2,10 @@
 #![tactic(auto)]
 
 ghost use Rattle.std.specs.Prelude.{◌≡◌};
-ghost use Rattle.mv_defs.specs.Rules.{checked_head};
+ghost use Rattle.mv_units.specs.Rules.{checked_head};
 
-use mv_defs::UnitHead;
-use mv_io::Rule;
+use mv_rules::Rule;
+use mv_units::UnitHead;
 
 /// The head of a unit, which is its first two bytes (7.3.1.2).
 ///

@@ -18,7 +18,7 @@ mod unescaping;
 pub use escaping::escape;
 pub use framing::frame;
 pub use heads::read_head;
-pub use mv_defs::UnitHead;
+pub use mv_units::UnitHead;
 pub use scanner::{Found, Scanner};
 pub use splitting::{ScanFault, Span, split};
 pub use unescaping::unescape;

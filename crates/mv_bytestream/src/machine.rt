@@ -2,7 +2,7 @@
 #![tactic(auto)]
 
 use crate::making::{LONGEST_UNIT, append, ends_in_three, rule_shown, run_length};
-use mv_io::{Refusal, Rule};
+use mv_rules::{Refusal, Rule};
 use std::alloc::AllocError;
 
 // Where in a byte stream a scanner is.
@@ -41,7 +41,7 @@ pub struct Machine {
 impl Machine {
     ghost use Rattle.std.specs.Prelude.{◌≡◌, ◌+◌, ◌<◌, ◌≤◌, ◌^◌, ◌++◌, ◌∷◌, ◌⊎◌, [], ℕ, None, Some, length, take, nat_lt, vec_len, vec_capacity, IfErr, IfNone, IfOk, IfSome, List, OnOk, true, if◌then◌else◌};
     ghost use Rattle.mv_bytestream.specs.Scan.{RefusedAtEnd, ShowsAt, StandsFor, TakesToUnit, handed_out};
-    ghost use Rattle.mv_io.specs.declared.rule.Rule.{Rule};
+    ghost use Rattle.mv_rules.specs.declared.rule.Rule.{Rule};
     ghost use Rattle.mv_bytestream.specs.declared.machine.Stage.{Stage};
     ghost use Rattle.mv_bytestream.specs.Stages.{HasRoom, IsHeld, IsOpen, IsRunning, Takes, scan_of, unit_held};
 

@@ -2,12 +2,12 @@
 #![tactic(auto)]
 
 ghost use Rattle.std.specs.Prelude.{◌≡◌, ◌≢◌, ◌+◌, ◌<◌, ◌≤◌, ◌++◌, ◌∷◌, [], true, false, length, replicate, take, vec_len, vec_capacity, IfNone};
-ghost use Rattle.mv_defs.specs.Rules.{has_emulation, longest_unit};
-ghost use Rattle.mv_defs.specs.Units.{has_code, trimmed};
-ghost use Rattle.mv_bytestream.specs.Bytes.{IsQuiet, early_rule, ends_three};
+ghost use Rattle.mv_units.specs.Rules.{early_rule, has_emulation, longest_unit};
+ghost use Rattle.mv_units.specs.Units.{has_code, trimmed};
+ghost use Rattle.mv_bytestream.specs.Bytes.{IsQuiet, ends_three};
 
 use memchr::memmem;
-use mv_io::Rule;
+use mv_rules::Rule;
 
 /// The greatest number of bytes of a unit, 2^24.
 pub const LONGEST_UNIT: usize = 16_777_216;

@@ -4,7 +4,7 @@
 ghost use Rattle.std.specs.Prelude.{◌≡◌, ◌<◌, ◌≤◌, None, OnOk};
 
 use crate::{ScanFault, Scanner, split};
-use mv_io::{Refusal, Rule};
+use mv_rules::{Refusal, Rule};
 use std::alloc::Global;
 use std::test::Fail;
 

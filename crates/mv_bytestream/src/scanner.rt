@@ -3,7 +3,7 @@
 
 ghost use Rattle.std.specs.Prelude.{◌≡◌, ◌<◌, ◌≤◌, ◌+◌, ◌^◌, ◌++◌, ℕ, List, [], None, Some, Err, false, true, take, length, IfOk, OnOk, IfErr};
 ghost use Rattle.std.specs.Option.{option_map};
-ghost use Rattle.mv_io.specs.declared.refusal.Refusal.{Refusal};
+ghost use Rattle.mv_rules.specs.declared.refusal.Refusal.{Refusal};
 ghost use Rattle.mv_bytestream.specs.Scan.{RefusesEnd, RefusesPiece, StandsFor, TakesToUnit, nothing_fed};
 
 use crate::machine::{Machine, Stage};

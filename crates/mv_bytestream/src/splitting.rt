@@ -3,11 +3,11 @@
 
 ghost use Rattle.std.specs.Prelude.{◌≡◌, ◌<◌, ◌≤◌, None, All, false, not, map, length, drop, slice_range, IfOk, OnOk, IfErr, IfSome};
 ghost use Rattle.std.specs.List.{position_from};
-ghost use Rattle.mv_defs.specs.Units.{has_code, is_zero, leading, trimmed, units, units_at};
+ghost use Rattle.mv_units.specs.Units.{has_code, is_zero, leading, trimmed, units, units_at};
 ghost use Rattle.mv_bytestream.specs.Spans.{CodeOrEnd, LiesIn, RefusesLeading, unit_at};
 
 use memchr::memmem;
-use mv_io::{Refusal, Rule};
+use mv_rules::{Refusal, Rule};
 use std::alloc::Global;
 
 /// The start code prefix (Annex B).

@@ -3,7 +3,8 @@
 #![tactic(auto)]
 
 use crate::{ScanFault, Span, UnitHead, escape, frame, read_head, split, unescape};
-use mv_io::{MemSink, Refusal, Rule};
+use mv_io::MemSink;
+use mv_rules::{Refusal, Rule};
 use std::test::Fail;
 
 #[test]

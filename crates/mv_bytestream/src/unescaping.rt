@@ -2,7 +2,7 @@
 #![tactic(auto)]
 
 ghost use Rattle.std.specs.Prelude.{◌≡◌, ◌-◌, ◌<◌, ◌≤◌, ◌++◌, drop, length, slice_range, IfOk};
-ghost use Rattle.mv_defs.specs.Escapes.{payload};
+ghost use Rattle.mv_units.specs.Escapes.{payload};
 
 use memchr::memmem;
 use std::alloc::{AllocError, Global};

@@ -1,53 +1,72 @@
 -- The headline, from the cause of the ending and its line.
-use Rattle.std.proofs.Common.{◌≡◌, ℕ, ◌⊎◌, inl, inr, List, Option, None, Some, Result, Ok, Err, IfSome, refl, ap, subst, arith}
-use Rattle.std.specs.Prelude.{⊤}
-use Rattle.mv_io.specs.declared.refusal.Refusal.{Refusal}
+use Rattle.std.proofs.Common.{◌≡◌, ℕ, ◌⊎◌, inl, inr, List, [], ◌∷◌, ◌∙◌, Option, None, Some, Result, Ok, Err, IfSome, refl, ap, sym, subst, arith}
+use Rattle.std.specs.Prelude.{⊤, codes}
+use Rattle.mv_rules.specs.declared.refusal.Refusal.{Refusal}
 use Rattle.mv_io.specs.Source.{Told}
 use Rattle.mv_extract.specs.declared.error.ExtractError.{ExtractError}
 use Rattle.mv_extract.specs.declared.error.ExtractError.TheVariants.{Refused as RefusedBy, Read, Write, TooLong as TooManyBytes, Memory}
-use Rattle.mv_extract.specs.Answers.{Accepts, Answers, Refuses, due}
-use Rattle.mv_extract.specs.Call.{Input, Output}
+use Rattle.mv_judging.specs.Event.{Due, due}
+use Rattle.mv_judging.specs.Format.{byte_stream}
+use Rattle.mv_extract.specs.Answers.{Answers as Extracts, IsDue}
+use Rattle.mv_extract.specs.Text.{heads}
+use Rattle.mv_io.specs.Call.{Input, Output}
 use Rattle.mv_extract.proofs.Settled.{settles}
 use Rattle.mv_cli.specs.declared.ending.Ending.{Ending}
 use Rattle.mv_cli.specs.declared.ending.Ending.TheVariants.{Done, Refused, Usage, ReadFault, WriteFault, NoMemory, TooLong}
-use Rattle.mv_cli.specs.Answers.{Caused, Headline, Tells, answer_status}
+use Rattle.mv_cli.specs.declared.command.Command.TheVariants.{Extract, Pack, Unpack}
+use Rattle.mv_cli.specs.Answers.{Answered, Caused, Headline, Tells, answer_status, due_status}
 use Rattle.mv_cli.specs.Ending.{line_of, refusal_line, status_of}
-use Rattle.mv_cli.specs.Words.{IsForm}
+use Rattle.mv_cli.specs.Words.{Means}
 
-by_status : (old : Option Told) (limit : ℕ) (answer : Result ⊤ ExtractError) → IfSome old (λ was. (answer ≡ due limit was.left) ⊎ (answer ≡ Err Memory)) → IfSome old (λ was. (answer_status answer ≡ answer_status (due limit was.left)) ⊎ (answer_status answer ≡ 5))
+decided_status : (answer : Result ⊤ ExtractError) (what : Due) → IsDue what answer → (answer_status answer ≡ due_status what) ⊎ (answer_status answer ≡ 5)
+decided_status (Ok done) what is = inl (ap due_status (sym is))
+decided_status (Err (RefusedBy refusal)) what is = inl (ap due_status (sym is))
+decided_status (Err Read) what is = absurd is
+decided_status (Err Write) what is = absurd is
+decided_status (Err TooManyBytes) what is = inl (ap due_status (sym is))
+decided_status (Err Memory) what is = inr refl
+
+by_status : (old : Option Told) (limit : ℕ) (answer : Result ⊤ ExtractError) → IfSome old (λ was. IsDue (due byte_stream heads limit was.left) answer) →
+    IfSome old (λ was. (answer_status answer ≡ due_status (due byte_stream heads limit was.left)) ⊎ (answer_status answer ≡ 5))
 by_status None limit answer h = tt
-by_status (Some was) limit answer h = elim h [ inl e ↦ inl (ap answer_status e) | inr e ↦ inr (ap answer_status e) ]
+by_status (Some was) limit answer h = decided_status answer (due byte_stream heads limit was.left) h
 
 -- the line of a refusal, if that is the answer
 abbrev RefusalTold : Output → Result ⊤ ExtractError → Type 0
 RefusalTold faults answer = (refusal : Refusal) → answer ≡ Err (RefusedBy refusal) → Tells faults (refusal_line refusal)
 
--- an extraction that answered
-headline_by : (words : List (List ℕ)) (limit : ℕ) (input : Input) (output faults : Output) (answer : Result ⊤ ExtractError) → IsForm words → Answers limit input output answer → RefusalTold faults answer → Headline words limit input output faults (answer_status answer)
-headline_by words limit input output faults answer form answers told = record {
-  succeeds = λ e. (form, accepts answer answers e);
-  refused = λ e. refuses answer answers told e;
-  decided = λ f calm quiet. by_status input.old limit answer (settles limit input output answer answers calm quiet);
-  usage = λ no. absurd (no form);
+-- the words of extraction are no other command's
+extracted : (words : List (List ℕ)) (limit : ℕ) (input : Input) (output : Output) (answer : Result ⊤ ExtractError) → Answered words limit input output answer → Means words Extract → Extracts limit input output answer
+extracted words limit input output answer (Extract, means, does) extract = does
+extracted words limit input output answer (Pack, means, does) extract = absurd (let h : codes "pack" ∷ [] ≡ codes "extract" ∷ codes "0" ∷ [] = sym means ∙ extract in cc)
+extracted words limit input output answer (Unpack, means, does) extract = absurd (let h : codes "unpack" ∷ [] ≡ codes "extract" ∷ codes "0" ∷ [] = sym means ∙ extract in cc)
+
+-- a command that answered
+headline_by : (words : List (List ℕ)) (limit : ℕ) (input : Input) (output faults : Output) (answer : Result ⊤ ExtractError) → Answered words limit input output answer → RefusalTold faults answer → Headline words limit input output faults (answer_status answer)
+headline_by words limit input output faults answer answered told = record {
+  succeeds = λ e. accepts answer answered e;
+  refused = λ e. refuses answer answered told e;
+  decided = λ extract calm quiet. by_status input.old.told limit answer (settles limit input output answer (extracted words limit input output answer answered extract) calm quiet);
+  usage = λ none. absurd (none (answered.0, answered.1));
   form = λ e f. not_two answer e;
 }
   where
-    accepts : (a : Result ⊤ ExtractError) → Answers limit input output a → answer_status a ≡ 0 → Accepts limit input output
-    accepts (Ok done) answers e = answers
-    accepts (Err (RefusedBy refusal)) answers e = absurd (omega arith)
-    accepts (Err Read) answers e = absurd (omega arith)
-    accepts (Err Write) answers e = absurd (omega arith)
-    accepts (Err TooManyBytes) answers e = absurd (omega arith)
-    accepts (Err Memory) answers e = absurd (omega arith)
+    accepts : (a : Result ⊤ ExtractError) → Answered words limit input output a → answer_status a ≡ 0 → Answered words limit input output (Ok tt)
+    accepts (Ok done) answered e = answered
+    accepts (Err (RefusedBy refusal)) answered e = absurd (omega arith)
+    accepts (Err Read) answered e = absurd (omega arith)
+    accepts (Err Write) answered e = absurd (omega arith)
+    accepts (Err TooManyBytes) answered e = absurd (omega arith)
+    accepts (Err Memory) answered e = absurd (omega arith)
 
-    refuses : (a : Result ⊤ ExtractError) → Answers limit input output a → RefusalTold faults a → answer_status a ≡ 1 →
-        (refusal : Refusal) × IsForm words × Refuses limit input output refusal × Tells faults (refusal_line refusal)
-    refuses (Ok done) answers told e = absurd (omega arith)
-    refuses (Err (RefusedBy refusal)) answers told e = (refusal, form, answers, told refusal refl)
-    refuses (Err Read) answers told e = absurd (omega arith)
-    refuses (Err Write) answers told e = absurd (omega arith)
-    refuses (Err TooManyBytes) answers told e = absurd (omega arith)
-    refuses (Err Memory) answers told e = absurd (omega arith)
+    refuses : (a : Result ⊤ ExtractError) → Answered words limit input output a → RefusalTold faults a → answer_status a ≡ 1 →
+        (refusal : Refusal) × Answered words limit input output (Err (RefusedBy refusal)) × Tells faults (refusal_line refusal)
+    refuses (Ok done) answered told e = absurd (omega arith)
+    refuses (Err (RefusedBy refusal)) answered told e = (refusal, answered, told refusal refl)
+    refuses (Err Read) answered told e = absurd (omega arith)
+    refuses (Err Write) answered told e = absurd (omega arith)
+    refuses (Err TooManyBytes) answered told e = absurd (omega arith)
+    refuses (Err Memory) answered told e = absurd (omega arith)
 
     not_two : (a : Result ⊤ ExtractError) → answer_status a ≡ 2 → ⊥
     not_two (Ok done) e = omega arith
@@ -63,17 +82,17 @@ told_line faults refusal line other e =
     let same : refusal ≡ other = cc in subst (λ r. Tells faults (refusal_line r)) same line
 
 pub headline : (words : List (List ℕ)) (limit : ℕ) (input : Input) (output faults : Output) (ending : Ending) → Caused words limit input output ending → Tells faults (line_of ending) → Headline words limit input output faults (status_of ending)
-headline words limit input output faults Done caused line = headline_by words limit input output faults (Ok tt) caused.0 caused.1 (λ r e. absurd (cc))
+headline words limit input output faults Done caused line = headline_by words limit input output faults (Ok tt) caused (λ r e. absurd (cc))
 headline words limit input output faults (Refused refusal) caused line =
-    headline_by words limit input output faults (Err (RefusedBy refusal)) caused.0 caused.1 (told_line faults refusal line)
+    headline_by words limit input output faults (Err (RefusedBy refusal)) caused (told_line faults refusal line)
 headline words limit input output faults Usage caused line = record {
   succeeds = λ e. absurd (omega arith);
   refused = λ e. absurd (omega arith);
-  decided = λ f calm quiet. absurd (caused.0 f);
-  usage = λ no. refl;
+  decided = λ extract calm quiet. absurd (caused.0 (Extract, extract));
+  usage = λ none. refl;
   form = λ e. caused.0;
 }
-headline words limit input output faults ReadFault caused line = headline_by words limit input output faults (Err Read) caused.0 caused.1 (λ r e. absurd (cc))
-headline words limit input output faults WriteFault caused line = headline_by words limit input output faults (Err Write) caused.0 caused.1 (λ r e. absurd (cc))
-headline words limit input output faults NoMemory caused line = headline_by words limit input output faults (Err Memory) caused.0 caused.1 (λ r e. absurd (cc))
-headline words limit input output faults TooLong caused line = headline_by words limit input output faults (Err TooManyBytes) caused.0 caused.1 (λ r e. absurd (cc))
+headline words limit input output faults ReadFault caused line = headline_by words limit input output faults (Err Read) caused (λ r e. absurd (cc))
+headline words limit input output faults WriteFault caused line = headline_by words limit input output faults (Err Write) caused (λ r e. absurd (cc))
+headline words limit input output faults NoMemory caused line = headline_by words limit input output faults (Err Memory) caused (λ r e. absurd (cc))
+headline words limit input output faults TooLong caused line = headline_by words limit input output faults (Err TooManyBytes) caused (λ r e. absurd (cc))

@@ -1,4 +1,4 @@
--- A list of two, by its elements.
+-- A list of one or two texts, by its elements.
 use Rattle.std.proofs.Common.{◌≡◌, ℕ, ◌<◌, ◌≤◌, Bool, true, List, [], ◌∷◌, length, get_or, map, ap, ◌∙◌, sym, arith}
 use Rattle.std.specs.Prelude.{◌↔◌, IsTrue}
 use Rattle.std.specs.Str.{bytes_eq}
@@ -15,4 +15,17 @@ pub both : (ws : List (List ℕ)) (x y xn yn p q : List ℕ) (r : Bool) → ws �
 both ws x y xn yn p q r two ex ey first second = (
   λ h. two ∙ ap (λ v. v ∷ y ∷ []) (sym ex ∙ (bytes_eq-Decides xn p).0 (sym first)) ∙ ap (λ v. p ∷ v ∷ []) (sym ey ∙ (bytes_eq-Decides yn q).0 (sym second ∙ h)),
   λ same. let parts : x ∷ y ∷ [] ≡ p ∷ q ∷ [] = sym two ∙ same in let last : y ≡ q = cc in second ∙ (bytes_eq-Decides yn q).1 (ey ∙ last),
+)
+
+-- a list of one
+pub one : {A : Type 0} (f : A → List ℕ) (xs : List A) (x : A) → 1 ≤ length xs → length xs < 2 → x ≡ get_or xs 0 x → map f xs ≡ f x ∷ []
+one f [] x low high e = absurd (omega arith)
+one f (a ∷ []) x low high e = ap (λ v. f v ∷ []) (sym e)
+one f (a ∷ b ∷ xs) x low high e = absurd (omega arith)
+
+-- the test of a text decides whether it is the only one
+pub alone : (ws : List (List ℕ)) (x xn p : List ℕ) (r : Bool) → ws ≡ x ∷ [] → xn ≡ x → r ≡ bytes_eq xn p → IsTrue r ↔ (ws ≡ p ∷ [])
+alone ws x xn p r one ex test = (
+  λ h. one ∙ ap (λ v. v ∷ []) (sym ex ∙ (bytes_eq-Decides xn p).0 (sym test ∙ h)),
+  λ same. let parts : x ∷ [] ≡ p ∷ [] = sym one ∙ same in let last : x ≡ p = cc in test ∙ (bytes_eq-Decides xn p).1 (ex ∙ last),
 )

@@ -1,10 +1,21 @@
 -- How a run of the program ends: its status, and the line that says why (this project's profile).
-use Rattle.std.specs.Prelude.{ℕ, List, [], ◌++◌, codes, decimal}
-use Rattle.mv_io.specs.declared.refusal.Refusal.{Refusal}
-use Rattle.mv_io.specs.Rule.{rule_number, rule_name}
+use Rattle.std.specs.Prelude.{ℕ, List, [], ◌++◌, codes, decimal, Result, Ok, Err, ⊤}
+use Rattle.mv_rules.specs.declared.refusal.Refusal.{Refusal}
+use Rattle.mv_rules.specs.Rule.{rule_number, rule_name}
+use Rattle.mv_extract.specs.declared.error.ExtractError.{ExtractError}
+use Rattle.mv_extract.specs.declared.error.ExtractError.TheVariants.{Refused as RefusedBy, Read, Write, TooLong as TooManyBytes, Memory}
 use Rattle.mv_cli.specs.declared.ending.Ending.{Ending}
 use Rattle.mv_cli.specs.declared.ending.Ending.TheVariants.{Done, Refused, Usage, ReadFault, WriteFault, NoMemory, TooLong}
 use Rattle.mv_cli.specs.Words.{usage_line}
+
+-- the ending of a command that answered so
+abbrev pub ending_of : Result ⊤ ExtractError → Ending
+ending_of (Ok _) = Done
+ending_of (Err (RefusedBy refusal)) = Refused refusal
+ending_of (Err Read) = ReadFault
+ending_of (Err Write) = WriteFault
+ending_of (Err TooManyBytes) = TooLong
+ending_of (Err Memory) = NoMemory
 
 -- the exit status of each ending
 abbrev pub status_of : Ending → ℕ

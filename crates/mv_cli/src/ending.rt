@@ -1,6 +1,7 @@
 ghost use Rattle.std.specs.Prelude.{◌≡◌};
 
-use mv_io::Refusal;
+use mv_extract::ExtractError;
+use mv_rules::Refusal;
 
 /// How a run of the program ends.
 #[derive(Clone, Copy, Debug, PartialEq, Eq)]
@@ -22,7 +23,21 @@ pub enum Ending {
 }
 
 impl Ending {
-    ghost use Rattle.mv_cli.specs.Ending.{status_of};
+    ghost use Rattle.mv_cli.specs.Ending.{ending_of, status_of};
+
+    /// The ending of a command that answered so.
+    pub fn of(answer: Result<(), ExtractError>) -> Ending
+        ensures { result ≡ ending_of answer }
+    {
+        match answer {
+            Ok(()) => Ending::Done,
+            Err(ExtractError::Refused(refusal)) => Ending::Refused(refusal),
+            Err(ExtractError::Read) => Ending::ReadFault,
+            Err(ExtractError::Write) => Ending::WriteFault,
+            Err(ExtractError::TooLong) => Ending::TooLong,
+            Err(ExtractError::Memory) => Ending::NoMemory,
+        }
+    }
 
     /// The exit status: 0 where the job is done, and else a number from 1 to 7.
     pub fn status(&self) -> u8

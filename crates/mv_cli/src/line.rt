@@ -3,15 +3,16 @@
 
 ghost use Rattle.std.specs.Prelude.{◌≡◌, ◌+◌, ◌≤◌, ◌++◌, decimal};
 ghost use Rattle.arrayvec.specs.ArrayString.{array_string_len};
-ghost use Rattle.mv_io.specs.Rule.{rule_name};
-ghost use Rattle.mv_extract.specs.Call.{output_of};
+ghost use Rattle.mv_rules.specs.Rule.{rule_name};
+ghost use Rattle.mv_io.specs.Call.{output_of};
 ghost use Rattle.mv_cli.specs.Answers.{Tells};
 ghost use Rattle.mv_cli.specs.Ending.{line_of, refusal_line};
 
 use crate::ending::Ending;
 use arrayvec::ArrayString;
 use itoa::Buffer;
-use mv_io::{Refusal, Rule, Sink, write_all};
+use mv_io::{Sink, write_all};
+use mv_rules::{Refusal, Rule};
 
 /// The room for the line of a refusal, in bytes.
 const ROOM: usize = 160;
@@ -21,7 +22,7 @@ type Line = ArrayString<ROOM>;
 /// Writes the line of an ending. A write that fails is left aside.
 pub fn tell<E: Sink>(faults: &mut E, ending: &Ending)
     ensures { Tells
-        (output_of (E.taken faults.old) (E.taken faults.new) (E.faults faults.old) (E.faults faults.new))
+        (output_of (E.state faults.old) (E.state faults.new))
         (line_of ending.now) }
 {
     match ending {
@@ -29,7 +30,7 @@ pub fn tell<E: Sink>(faults: &mut E, ending: &Ending)
         Ending::Refused(refusal) => tell_text(faults, describe(refusal).as_str()),
         Ending::Usage => tell_text(
             faults,
-            "usage: mv_cli extract N | digest N | check | show | gen NUMBER COUNT [sum]\n",
+            "usage: mv_cli extract N | digest N [format1] | check | show | gen NUMBER COUNT [sum] | pack | unpack\n",
         ),
         Ending::ReadFault => tell_text(faults, "read fault\n"),
         Ending::WriteFault => tell_text(faults, "write fault\n"),
@@ -41,7 +42,7 @@ pub fn tell<E: Sink>(faults: &mut E, ending: &Ending)
 // Writes a text, as far as the sink takes it.
 fn tell_text<E: Sink>(faults: &mut E, text: &str)
     ensures { Tells
-        (output_of (E.taken faults.old) (E.taken faults.new) (E.faults faults.old) (E.faults faults.new))
+        (output_of (E.state faults.old) (E.state faults.new))
         text.now }
 {
     let _ = write_all(faults, text.as_bytes());

@@ -1,7 +1,9 @@
 //! mv_cli, an extractor of sub-bitstreams of MV-HEVC byte streams: `mv_cli extract 0` reads a byte stream
 //! from the standard input, and writes the units of its base layer on the standard output as they come.
+//! `pack` and `unpack` carry units to the length-prefixed form and back.
 #![tactic(auto)]
 
+mod command;
 mod ending;
 mod line;
 mod run;
@@ -10,7 +12,7 @@ mod tests;
 #[cfg(test)]
 mod two_view_tests;
 
-use mv_io::{StdSink, StdSource};
+use mv_io::{Buffered, StdSink, StdSource};
 pub use run::{run, run_within};
 use std::env;
 use std::io::ErrorKind;
@@ -27,7 +29,7 @@ fn main(rt: HostRuntime) -> ExitCode {
         Err(_) => return ExitCode::from(5),
     };
     let mut input = StdSource::new(&rt);
-    let mut output = StdSink::output(&rt);
+    let mut output = Buffered::new(StdSink::output(&rt));
     let mut faults = StdSink::error(&rt);
     let status = run(rt.alloc(), &words, &mut input, &mut output, &mut faults);
     let flushed = output.flush();

@@ -8,7 +8,8 @@ const TWELVE: [u8; 12] = [0, 0, 1, 0x40, 1, 0xAA, 0, 0, 1, 2, 9, 0xBB];
 
 const SEVEN: [u8; 7] = [0, 0, 0, 1, 0x40, 1, 0xAA];
 
-const USAGE: &str = "usage: mv_cli extract N | digest N | check | show | gen NUMBER COUNT [sum]\n";
+const USAGE: &str =
+    "usage: mv_cli extract N | digest N [format1] | check | show | gen NUMBER COUNT [sum] | pack | unpack\n";
 
 // A run over the memory ends: what comes in, and what has to come out.
 #[derive(Clone, Copy)]
@@ -136,6 +137,83 @@ fn streams(rt: HostRuntime) -> Result<(), Fail> {
     ];
     for row in &rows {
         check(&rt, rt.alloc(), row)?;
+    }
+    Ok(())
+}
+
+static PACKED: [u8; 14] = [0, 0, 0, 3, 0x40, 1, 0xAA, 0, 0, 0, 3, 2, 9, 0xBB];
+
+static FRAMED: [u8; 14] = [0, 0, 0, 1, 0x40, 1, 0xAA, 0, 0, 0, 1, 2, 9, 0xBB];
+
+static ONES: [u32; 14] = [1; 14];
+
+#[test]
+fn units_behind_their_lengths(rt: HostRuntime) -> Result<(), Fail> {
+    let packs = Row {
+        words: &["pack"],
+        output: &PACKED,
+        ..PLAIN
+    };
+    let unpacks = Row {
+        words: &["unpack"],
+        input: &PACKED,
+        output: &FRAMED,
+        ..PLAIN
+    };
+    let rows = [
+        packs,
+        unpacks,
+        Row {
+            failing_reads: &[0],
+            status: 3,
+            line: "read fault\n",
+            output: &[],
+            ..packs
+        },
+        Row {
+            failing_writes: &[3],
+            status: 4,
+            line: "write fault\n",
+            output: &FRAMED[..11],
+            ..unpacks
+        },
+        Row {
+            input: &PACKED[..6],
+            status: 1,
+            line: "refused: unit 0 at byte 6: rule 90 Truncated\n",
+            output: &[],
+            ..unpacks
+        },
+        Row {
+            input: &[0, 0, 0, 6, 0x40, 1, 0, 0, 1, 0xAA],
+            status: 1,
+            line: "refused: unit 0 at byte 4: rule 91 InnerCode\n",
+            output: &[],
+            ..unpacks
+        },
+        Row {
+            input: &[0, 0, 0, 3, 0x40, 1, 0],
+            status: 1,
+            line: "refused: unit 0 at byte 4: rule 92 LastZero\n",
+            output: &[],
+            ..unpacks
+        },
+        Row {
+            input: &[],
+            output: &[],
+            ..unpacks
+        },
+    ];
+    for row in &rows {
+        check(&rt, rt.alloc(), row)?;
+        check(
+            &rt,
+            rt.alloc(),
+            &Row {
+                pieces: &ONES,
+                ..*row
+            },
+        )?;
     }
     Ok(())
 }

@@ -211,9 +211,7 @@ fn answers_the_same_however_cut(rt: HostRuntime) -> Result<(), Fail> {
 struct Zeros;
 
 impl Source for Zeros {
-    ghost told = { λ _. None };
-
-    ghost faults = { λ _. 0 };
+    ghost state = { λ _. record { told = None; faults = 0 } };
 
     fn read(&mut self, into: &mut [u8]) -> Result<usize, SourceFailed> {
         into.fill(0);

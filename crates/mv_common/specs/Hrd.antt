@@ -1,7 +1,7 @@
 -- hrd_parameters (E.2.2) and sub_layer_hrd_parameters (E.2.3).
 use Rattle.std.specs.Prelude.{ℕ, ◌+◌, Bool, not, ◌||◌, List, Option, Some, None, refl}
 use Rattle.mv_syntax.specs.Table.{Table, ◌>>=◌, u, ue, named, when, shaped}
-use Rattle.mv_syntax.specs.Words.{◌▸◌, ◌>>◌, ◌!◌∶◌, over, is_set, ◌otherwise◌, or_zero, coded_set}
+use Rattle.mv_syntax.specs.Words.{◌▸◌, ◌>>◌, ◌unless◌, over, is_set, ◌otherwise◌, or_zero, coded_set}
 use Rattle.mv_syntax.specs.Loops.{items}
 use Rattle.mv_common.specs.declared.hrd_common.HrdCommon.{HrdCommon}
 use Rattle.mv_common.specs.declared.hrd_common.HrdFlags.{HrdFlags}
@@ -11,20 +11,20 @@ use Rattle.mv_common.specs.declared.hrd.HrdArgs.{HrdArgs}
 -- The first group, which a header may leave out for a later hrd_parameters.
 unfoldable pub hrd_common : Table HrdCommon
 hrd_common = shaped
-    (λ c. record {
-      nal_hrd_parameters_present_flag = c.0;
-      vcl_hrd_parameters_present_flag = c.1.0;
-      sub_pic_hrd_params_present_flag = c.1.1.0;
-      tick_divisor_minus2 = c.1.1.1.0;
-      du_cpb_removal_delay_increment_length_minus1 = c.1.1.1.1.0;
-      sub_pic_cpb_params_in_pic_timing_sei_flag = c.1.1.1.1.1.0;
-      dpb_output_delay_du_length_minus1 = c.1.1.1.1.1.1.0;
-      bit_rate_scale = c.1.1.1.1.1.1.1.0;
-      cpb_size_scale = c.1.1.1.1.1.1.1.1.0;
-      cpb_size_du_scale = c.1.1.1.1.1.1.1.1.1.0;
-      initial_cpb_removal_delay_length_minus1 = c.1.1.1.1.1.1.1.1.1.1.0;
-      au_cpb_removal_delay_length_minus1 = c.1.1.1.1.1.1.1.1.1.1.1.0;
-      dpb_output_delay_length_minus1 = c.1.1.1.1.1.1.1.1.1.1.1.1;
+    (λ (nal_hrd_parameters_present_flag, (vcl_hrd_parameters_present_flag, (sub_pic_hrd_params_present_flag, (tick_divisor_minus2, (du_cpb_removal_delay_increment_length_minus1, (sub_pic_cpb_params_in_pic_timing_sei_flag, (dpb_output_delay_du_length_minus1, (bit_rate_scale, (cpb_size_scale, (cpb_size_du_scale, (initial_cpb_removal_delay_length_minus1, (au_cpb_removal_delay_length_minus1, dpb_output_delay_length_minus1)))))))))))). record {
+      nal_hrd_parameters_present_flag = nal_hrd_parameters_present_flag;
+      vcl_hrd_parameters_present_flag = vcl_hrd_parameters_present_flag;
+      sub_pic_hrd_params_present_flag = sub_pic_hrd_params_present_flag;
+      tick_divisor_minus2 = tick_divisor_minus2;
+      du_cpb_removal_delay_increment_length_minus1 = du_cpb_removal_delay_increment_length_minus1;
+      sub_pic_cpb_params_in_pic_timing_sei_flag = sub_pic_cpb_params_in_pic_timing_sei_flag;
+      dpb_output_delay_du_length_minus1 = dpb_output_delay_du_length_minus1;
+      bit_rate_scale = bit_rate_scale;
+      cpb_size_scale = cpb_size_scale;
+      cpb_size_du_scale = cpb_size_du_scale;
+      initial_cpb_removal_delay_length_minus1 = initial_cpb_removal_delay_length_minus1;
+      au_cpb_removal_delay_length_minus1 = au_cpb_removal_delay_length_minus1;
+      dpb_output_delay_length_minus1 = dpb_output_delay_length_minus1;
     })
     (λ v.
     v.nal_hrd_parameters_present_flag
@@ -61,12 +61,12 @@ hrd_common = shaped
 -- Turn k of sub_layer_hrd_parameters (E.2.3).
 unfoldable pub cpb : Bool → ℕ → Table Cpb
 cpb sub_pic k = shaped
-    (λ c. record {
-      bit_rate_value_minus1 = c.0;
-      cpb_size_value_minus1 = c.1.0;
-      cpb_size_du_value_minus1 = c.1.1.0;
-      bit_rate_du_value_minus1 = c.1.1.1.0;
-      cbr_flag = c.1.1.1.1;
+    (λ (bit_rate_value_minus1, (cpb_size_value_minus1, (cpb_size_du_value_minus1, (bit_rate_du_value_minus1, cbr_flag)))). record {
+      bit_rate_value_minus1 = bit_rate_value_minus1;
+      cpb_size_value_minus1 = cpb_size_value_minus1;
+      cpb_size_du_value_minus1 = cpb_size_du_value_minus1;
+      bit_rate_du_value_minus1 = bit_rate_du_value_minus1;
+      cbr_flag = cbr_flag;
     })
     (λ v.
     v.bit_rate_value_minus1
@@ -98,14 +98,14 @@ pub record HrdSubLayerValue : Type 0 where
 -- The fields of sub-layer i, by the flags in force. fixed_pic_rate_within_cvs_flag is 1 where it is left out.
 unfoldable pub hrd_sub_layer : HrdFlags → ℕ → Table HrdSubLayerValue
 hrd_sub_layer flags i = shaped
-    (λ c. record {
-      fixed_pic_rate_general_flag = c.0;
-      fixed_pic_rate_within_cvs_flag = c.1.0;
-      elemental_duration_in_tc_minus1 = c.1.1.0;
-      low_delay_hrd_flag = c.1.1.1.0;
-      cpb_cnt_minus1 = c.1.1.1.1.0;
-      nal_sub_layer_hrd = c.1.1.1.1.1.0;
-      vcl_sub_layer_hrd = c.1.1.1.1.1.1;
+    (λ (fixed_pic_rate_general_flag, (fixed_pic_rate_within_cvs_flag, (elemental_duration_in_tc_minus1, (low_delay_hrd_flag, (cpb_cnt_minus1, (nal_sub_layer_hrd, vcl_sub_layer_hrd)))))). record {
+      fixed_pic_rate_general_flag = fixed_pic_rate_general_flag;
+      fixed_pic_rate_within_cvs_flag = fixed_pic_rate_within_cvs_flag;
+      elemental_duration_in_tc_minus1 = elemental_duration_in_tc_minus1;
+      low_delay_hrd_flag = low_delay_hrd_flag;
+      cpb_cnt_minus1 = cpb_cnt_minus1;
+      nal_sub_layer_hrd = nal_sub_layer_hrd;
+      vcl_sub_layer_hrd = vcl_sub_layer_hrd;
     })
     (λ v.
     v.fixed_pic_rate_general_flag
@@ -122,7 +122,7 @@ hrd_sub_layer flags i = shaped
       let within_cvs : Bool = is_set (fixed_pic_rate_within_cvs_flag otherwise 1) in do
         named "elemental_duration_in_tc_minus1" (when within_cvs ue)
         low_delay_hrd_flag ← named "low_delay_hrd_flag" (when (not within_cvs) (u 1))
-        cpb_cnt_minus1 ← named "cpb_cnt_minus1" (when (not (coded_set low_delay_hrd_flag)) (ue ! 0 ∶ over 31))
+        cpb_cnt_minus1 ← named "cpb_cnt_minus1" (when (not (coded_set low_delay_hrd_flag)) (ue unless over 31))
         when flags.nal (sub_layer_hrd flags.sub_pic (or_zero cpb_cnt_minus1))
         when flags.vcl (sub_layer_hrd flags.sub_pic (or_zero cpb_cnt_minus1))
 

@@ -1,10 +1,6 @@
-pub mod Faults
 pub mod Profile
 pub mod ProfileTier
 pub mod Hrd
 pub mod Vui
-pub mod Deltas
 pub mod ScalingListValue
 pub mod ScalingLists
-pub mod ShortSet
-pub mod ShortSetValue

@@ -6,17 +6,17 @@ use Rattle.mv_common.specs.declared.profile.Profile.{Profile}
 
 unfoldable pub profile : Table Profile
 profile = shaped
-    (λ c. record {
-      profile_space = c.0;
-      tier_flag = c.1.0;
-      profile_idc = c.1.1.0;
-      compatibility_flags = c.1.1.1.0;
-      progressive_source_flag = c.1.1.1.1.0;
-      interlaced_source_flag = c.1.1.1.1.1.0;
-      non_packed_constraint_flag = c.1.1.1.1.1.1.0;
-      frame_only_constraint_flag = c.1.1.1.1.1.1.1.0;
-      constraint_43bits = c.1.1.1.1.1.1.1.1.0;
-      constraint_last_bit = c.1.1.1.1.1.1.1.1.1;
+    (λ (profile_space, (tier_flag, (profile_idc, (compatibility_flags, (progressive_source_flag, (interlaced_source_flag, (non_packed_constraint_flag, (frame_only_constraint_flag, (constraint_43bits, constraint_last_bit))))))))). record {
+      profile_space = profile_space;
+      tier_flag = tier_flag;
+      profile_idc = profile_idc;
+      compatibility_flags = compatibility_flags;
+      progressive_source_flag = progressive_source_flag;
+      interlaced_source_flag = interlaced_source_flag;
+      non_packed_constraint_flag = non_packed_constraint_flag;
+      frame_only_constraint_flag = frame_only_constraint_flag;
+      constraint_43bits = constraint_43bits;
+      constraint_last_bit = constraint_last_bit;
     })
     (λ v.
     v.profile_space

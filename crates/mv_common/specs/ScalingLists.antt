@@ -1,8 +1,8 @@
 -- The scaling lists of a parameter set, scaling_list_data (7.3.4).
 use Rattle.std.specs.Prelude.{ℕ, ℤ, ◌+◌, ◌*◌, ◌/◌, ◌^◌, min, Bool, not, ◌&&◌, List, nat_lt, nat_eq, refl, if◌then◌else◌}
-use Rattle.mv_syntax.specs.Table.{Table, ◌>>=◌, u, ue, se, named, when, repeat, shaped}
+use Rattle.mv_syntax.specs.Table.{Table, ◌>>=◌, u, ue, se, named, when, shaped}
 use Rattle.mv_syntax.specs.Words.{◌▸◌, ◌>>◌, is_set}
-use Rattle.mv_syntax.specs.Loops.{items}
+use Rattle.mv_syntax.specs.Loops.{items, items_numbered, each}
 use Rattle.mv_common.specs.ScalingListValue.{ScalingListValue}
 
 -- How many coefficients are coded for a list of size s (7.3.4, coefNum).
@@ -18,11 +18,11 @@ coefficients coded s = items 0 (if coded then num_coefficients s else 0) coeffic
 -- One list of size s, for blocks of 2 ^ (2 + s) by 2 ^ (2 + s) samples.
 unfoldable pub scaling_list : ℕ → Table ScalingListValue
 scaling_list s = shaped
-    (λ c. record {
-      scaling_list_pred_mode_flag = c.0;
-      scaling_list_pred_matrix_id_delta = c.1.0;
-      scaling_list_dc_coef_minus8 = c.1.1.0;
-      scaling_list_delta_coef = c.1.1.1;
+    (λ (scaling_list_pred_mode_flag, (scaling_list_pred_matrix_id_delta, (scaling_list_dc_coef_minus8, scaling_list_delta_coef))). record {
+      scaling_list_pred_mode_flag = scaling_list_pred_mode_flag;
+      scaling_list_pred_matrix_id_delta = scaling_list_pred_matrix_id_delta;
+      scaling_list_dc_coef_minus8 = scaling_list_dc_coef_minus8;
+      scaling_list_delta_coef = scaling_list_delta_coef;
     })
     (λ v.
     v.scaling_list_pred_mode_flag
@@ -37,12 +37,15 @@ scaling_list s = shaped
         named "scaling_list_dc_coef_minus8" (when (has_coefficients && nat_lt 1 s) se)
         coefficients has_coefficients s
 
--- The lists of size s are those of matrices 0 to 5, of size 3 those of matrices 0 and 3.
+-- The lists of size s are those of matrices 0 to 5, of size 3 those of matrices 0 and 3 (matrixId).
 abbrev pub matrix_step : ℕ → ℕ
 matrix_step s = if nat_eq s 3 then 3 else 1
 
+abbrev pub matrix_id : ℕ → ℕ → ℕ
+matrix_id s turn = matrix_step s * turn
+
 unfoldable pub lists_of_size : ℕ → Table (List ScalingListValue)
-lists_of_size s = repeat (λ turn. matrix_step s * turn) (6 / matrix_step s) (λ before. scaling_list s)
+lists_of_size s = items_numbered (matrix_id s) (6 / matrix_step s) (each (scaling_list s))
 
 -- The lists of the sizes 0 to 3.
 unfoldable pub scaling_list_data : Table (List (List ScalingListValue))

@@ -13,11 +13,11 @@ use Rattle.mv_common.specs.declared.vui_parts.BitstreamRestriction.{BitstreamRes
 
 unfoldable pub aspect_ratio : Table AspectRatio
 aspect_ratio = shaped
-    (λ c. record {
-      aspect_ratio_info_present_flag = c.0;
-      aspect_ratio_idc = c.1.0;
-      sar_width = c.1.1.0;
-      sar_height = c.1.1.1;
+    (λ (aspect_ratio_info_present_flag, (aspect_ratio_idc, (sar_width, sar_height))). record {
+      aspect_ratio_info_present_flag = aspect_ratio_info_present_flag;
+      aspect_ratio_idc = aspect_ratio_idc;
+      sar_width = sar_width;
+      sar_height = sar_height;
     })
     (λ v.
     v.aspect_ratio_info_present_flag
@@ -45,14 +45,14 @@ overscan = shaped
 
 unfoldable pub video_signal_type : Table VideoSignalType
 video_signal_type = shaped
-    (λ c. record {
-      video_signal_type_present_flag = c.0;
-      video_format = c.1.0;
-      video_full_range_flag = c.1.1.0;
-      colour_description_present_flag = c.1.1.1.0;
-      colour_primaries = c.1.1.1.1.0;
-      transfer_characteristics = c.1.1.1.1.1.0;
-      matrix_coeffs = c.1.1.1.1.1.1;
+    (λ (video_signal_type_present_flag, (video_format, (video_full_range_flag, (colour_description_present_flag, (colour_primaries, (transfer_characteristics, matrix_coeffs)))))). record {
+      video_signal_type_present_flag = video_signal_type_present_flag;
+      video_format = video_format;
+      video_full_range_flag = video_full_range_flag;
+      colour_description_present_flag = colour_description_present_flag;
+      colour_primaries = colour_primaries;
+      transfer_characteristics = transfer_characteristics;
+      matrix_coeffs = matrix_coeffs;
     })
     (λ v.
     v.video_signal_type_present_flag
@@ -76,10 +76,10 @@ video_signal_type = shaped
 
 unfoldable pub chroma_location : Table ChromaLocation
 chroma_location = shaped
-    (λ c. record {
-      chroma_loc_info_present_flag = c.0;
-      chroma_sample_loc_type_top_field = c.1.0;
-      chroma_sample_loc_type_bottom_field = c.1.1;
+    (λ (chroma_loc_info_present_flag, (chroma_sample_loc_type_top_field, chroma_sample_loc_type_bottom_field)). record {
+      chroma_loc_info_present_flag = chroma_loc_info_present_flag;
+      chroma_sample_loc_type_top_field = chroma_sample_loc_type_top_field;
+      chroma_sample_loc_type_bottom_field = chroma_sample_loc_type_bottom_field;
     })
     (λ v.
     v.chroma_loc_info_present_flag
@@ -94,12 +94,12 @@ chroma_location = shaped
 
 unfoldable pub display_window : Table DisplayWindow
 display_window = shaped
-    (λ c. record {
-      default_display_window_flag = c.0;
-      def_disp_win_left_offset = c.1.0;
-      def_disp_win_right_offset = c.1.1.0;
-      def_disp_win_top_offset = c.1.1.1.0;
-      def_disp_win_bottom_offset = c.1.1.1.1;
+    (λ (default_display_window_flag, (def_disp_win_left_offset, (def_disp_win_right_offset, (def_disp_win_top_offset, def_disp_win_bottom_offset)))). record {
+      default_display_window_flag = default_display_window_flag;
+      def_disp_win_left_offset = def_disp_win_left_offset;
+      def_disp_win_right_offset = def_disp_win_right_offset;
+      def_disp_win_top_offset = def_disp_win_top_offset;
+      def_disp_win_bottom_offset = def_disp_win_bottom_offset;
     })
     (λ v.
     v.default_display_window_flag
@@ -118,16 +118,16 @@ display_window = shaped
 
 unfoldable pub bitstream_restriction : Table BitstreamRestriction
 bitstream_restriction = shaped
-    (λ c. record {
-      bitstream_restriction_flag = c.0;
-      tiles_fixed_structure_flag = c.1.0;
-      motion_vectors_over_pic_boundaries_flag = c.1.1.0;
-      restricted_ref_pic_lists_flag = c.1.1.1.0;
-      min_spatial_segmentation_idc = c.1.1.1.1.0;
-      max_bytes_per_pic_denom = c.1.1.1.1.1.0;
-      max_bits_per_min_cu_denom = c.1.1.1.1.1.1.0;
-      log2_max_mv_length_horizontal = c.1.1.1.1.1.1.1.0;
-      log2_max_mv_length_vertical = c.1.1.1.1.1.1.1.1;
+    (λ (bitstream_restriction_flag, (tiles_fixed_structure_flag, (motion_vectors_over_pic_boundaries_flag, (restricted_ref_pic_lists_flag, (min_spatial_segmentation_idc, (max_bytes_per_pic_denom, (max_bits_per_min_cu_denom, (log2_max_mv_length_horizontal, log2_max_mv_length_vertical)))))))). record {
+      bitstream_restriction_flag = bitstream_restriction_flag;
+      tiles_fixed_structure_flag = tiles_fixed_structure_flag;
+      motion_vectors_over_pic_boundaries_flag = motion_vectors_over_pic_boundaries_flag;
+      restricted_ref_pic_lists_flag = restricted_ref_pic_lists_flag;
+      min_spatial_segmentation_idc = min_spatial_segmentation_idc;
+      max_bytes_per_pic_denom = max_bytes_per_pic_denom;
+      max_bits_per_min_cu_denom = max_bits_per_min_cu_denom;
+      log2_max_mv_length_horizontal = log2_max_mv_length_horizontal;
+      log2_max_mv_length_vertical = log2_max_mv_length_vertical;
     })
     (λ v.
     v.bitstream_restriction_flag
@@ -167,14 +167,14 @@ no_flags = record { nal = false; vcl = false; sub_pic = false }
 
 unfoldable pub vui_timing : ℕ → Table VuiTimingValue
 vui_timing subs = shaped
-    (λ c. record {
-      vui_timing_info_present_flag = c.0;
-      vui_num_units_in_tick = c.1.0;
-      vui_time_scale = c.1.1.0;
-      vui_poc_proportional_to_timing_flag = c.1.1.1.0;
-      vui_num_ticks_poc_diff_one_minus1 = c.1.1.1.1.0;
-      vui_hrd_parameters_present_flag = c.1.1.1.1.1.0;
-      hrd_parameters = c.1.1.1.1.1.1;
+    (λ (vui_timing_info_present_flag, (vui_num_units_in_tick, (vui_time_scale, (vui_poc_proportional_to_timing_flag, (vui_num_ticks_poc_diff_one_minus1, (vui_hrd_parameters_present_flag, hrd_parameters)))))). record {
+      vui_timing_info_present_flag = vui_timing_info_present_flag;
+      vui_num_units_in_tick = vui_num_units_in_tick;
+      vui_time_scale = vui_time_scale;
+      vui_poc_proportional_to_timing_flag = vui_poc_proportional_to_timing_flag;
+      vui_num_ticks_poc_diff_one_minus1 = vui_num_ticks_poc_diff_one_minus1;
+      vui_hrd_parameters_present_flag = vui_hrd_parameters_present_flag;
+      hrd_parameters = hrd_parameters;
     })
     (λ v.
     v.vui_timing_info_present_flag
@@ -210,17 +210,17 @@ pub record VuiValue : Type 0 where
 -- vui_parameters(subs)
 unfoldable pub vui_parameters : ℕ → Table VuiValue
 vui_parameters subs = shaped
-    (λ c. record {
-      aspect_ratio = c.0;
-      overscan = c.1.0;
-      video_signal_type = c.1.1.0;
-      chroma_location = c.1.1.1.0;
-      neutral_chroma_indication_flag = c.1.1.1.1.0;
-      field_seq_flag = c.1.1.1.1.1.0;
-      frame_field_info_present_flag = c.1.1.1.1.1.1.0;
-      display_window = c.1.1.1.1.1.1.1.0;
-      timing = c.1.1.1.1.1.1.1.1.0;
-      bitstream_restriction = c.1.1.1.1.1.1.1.1.1;
+    (λ (aspect_ratio, (overscan, (video_signal_type, (chroma_location, (neutral_chroma_indication_flag, (field_seq_flag, (frame_field_info_present_flag, (display_window, (timing, bitstream_restriction))))))))). record {
+      aspect_ratio = aspect_ratio;
+      overscan = overscan;
+      video_signal_type = video_signal_type;
+      chroma_location = chroma_location;
+      neutral_chroma_indication_flag = neutral_chroma_indication_flag;
+      field_seq_flag = field_seq_flag;
+      frame_field_info_present_flag = frame_field_info_present_flag;
+      display_window = display_window;
+      timing = timing;
+      bitstream_restriction = bitstream_restriction;
     })
     (λ v.
     v.aspect_ratio

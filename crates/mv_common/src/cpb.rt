@@ -1,12 +1,11 @@
 ghost use Rattle.std.specs.Prelude.{◌≡◌, OnOk, option_map};
-ghost use Rattle.mv_syntax.specs.Table.{when, Valid, read, put};
-ghost use Rattle.mv_syntax.specs.Answers.{Fills};
-ghost use Rattle.mv_common.specs.Faults.{means};
+ghost use Rattle.mv_syntax.specs.Table.{when, Valid};
+ghost use Rattle.mv_syntax.specs.Printed.{printed};
+ghost use Rattle.mv_fields.specs.Reading.{ReadsShared, ReadsSharedAs};
 ghost use Rattle.mv_common.specs.Hrd.{cpb, sub_layer_hrd};
 
-use crate::fault::FieldFault;
-use crate::fields::{put_u8, put_ue, put_ue_if, u8_of, ue_if};
-use mv_bits::{BitReader, BitWriter};
+use mv_bits::BitReader;
+use mv_fields::{Fault, Limit, Printer, u8_of, ue_if};
 use std::alloc::{AllocError, Global};
 
 /// One turn of sub_layer_hrd_parameters (E.2.3): a delivery schedule of a coded picture buffer.
@@ -20,8 +19,8 @@ pub struct Cpb {
 }
 
 #[tactic(auto, unfolding(crate::specs::Hrd::cpb))]
-fn cpb_of(bits: &mut BitReader, sub_pic: bool, k: u64) -> Result<Cpb, FieldFault>
-    ensures { Fills (λ v. v) means bits.old bits.new result (read (cpb sub_pic k) bits.old.left) }
+fn cpb_of(bits: &mut BitReader, sub_pic: bool, k: u64) -> Result<Cpb, Fault<Limit>>
+    ensures { ReadsShared (cpb sub_pic k) bits.old bits.new result }
 {
     Ok(Cpb {
         bit_rate_value_minus1: bits.ue()?,
@@ -33,15 +32,23 @@ fn cpb_of(bits: &mut BitReader, sub_pic: bool, k: u64) -> Result<Cpb, FieldFault
 }
 
 #[tactic(auto, unfolding(crate::specs::Hrd::cpb))]
-fn put_cpb(out: &mut BitWriter, v: &Cpb, sub_pic: bool, k: usize) -> Result<(), AllocError>
+fn print_cpb(out: &mut Printer, v: &Cpb, sub_pic: bool, k: usize) -> Result<(), AllocError>
     requires { Valid (cpb sub_pic k) v.now }
-    ensures { OnOk result (out.new ≡ put (cpb sub_pic k) v.now out.old) }
+    ensures { OnOk result (out.new ≡ printed (cpb sub_pic k) v.now out.old) }
 {
-    put_ue(out, v.bit_rate_value_minus1)?;
-    put_ue(out, v.cpb_size_value_minus1)?;
-    put_ue_if(out, sub_pic, v.cpb_size_du_value_minus1)?;
-    put_ue_if(out, sub_pic, v.bit_rate_du_value_minus1)?;
-    put_u8(out, 1, v.cbr_flag)
+    out.ue("bit_rate_value_minus1", v.bit_rate_value_minus1)?;
+    out.ue("cpb_size_value_minus1", v.cpb_size_value_minus1)?;
+    out.ue_if(
+        sub_pic,
+        "cpb_size_du_value_minus1",
+        v.cpb_size_du_value_minus1,
+    )?;
+    out.ue_if(
+        sub_pic,
+        "bit_rate_du_value_minus1",
+        v.bit_rate_du_value_minus1,
+    )?;
+    out.flag("cbr_flag", v.cbr_flag)
 }
 
 #[tactic(auto, using(mv_syntax::proofs::LoopLaws::item_steps), unfolding(crate::specs::Hrd::sub_layer_hrd))]
@@ -50,8 +57,8 @@ fn sub_layer_hrd_of(
     bits: &mut BitReader,
     sub_pic: bool,
     cpb_cnt_minus1: u32,
-) -> Result<Vec<Cpb>, FieldFault>
-    ensures { Fills (λ v. v.items) means bits.old bits.new result (read (sub_layer_hrd sub_pic cpb_cnt_minus1) bits.old.left) }
+) -> Result<Vec<Cpb>, Fault<Limit>>
+    ensures { ReadsSharedAs (λ v. v.items) (sub_layer_hrd sub_pic cpb_cnt_minus1) bits.old bits.new result }
 {
     let turns = u64::from(cpb_cnt_minus1) + 1;
     let mut cpbs = Vec::new(alloc);
@@ -67,8 +74,8 @@ pub(crate) fn sub_layer_hrd_if(
     present: bool,
     sub_pic: bool,
     cpb_cnt_minus1: u32,
-) -> Result<Option<Vec<Cpb>>, FieldFault>
-    ensures { Fills (λ o. option_map (λ v. v.items) o) means bits.old bits.new result (read (when present (sub_layer_hrd sub_pic cpb_cnt_minus1)) bits.old.left) }
+) -> Result<Option<Vec<Cpb>>, Fault<Limit>>
+    ensures { ReadsSharedAs (λ o. option_map (λ v. v.items) o) (when present (sub_layer_hrd sub_pic cpb_cnt_minus1)) bits.old bits.new result }
 {
     if !present {
         return Ok(None);
@@ -76,34 +83,36 @@ pub(crate) fn sub_layer_hrd_if(
     Ok(Some(sub_layer_hrd_of(alloc, bits, sub_pic, cpb_cnt_minus1)?))
 }
 
-#[tactic(auto, using(mv_syntax::proofs::LoopLaws::put_item_steps), unfolding(crate::specs::Hrd::sub_layer_hrd))]
-fn put_sub_layer_hrd(
-    out: &mut BitWriter,
+#[tactic(auto, using(mv_syntax::proofs::PrintingLoops::print_item_steps), unfolding(crate::specs::Hrd::sub_layer_hrd))]
+fn print_sub_layer_hrd(
+    out: &mut Printer,
     cpbs: &[Cpb],
     sub_pic: bool,
     cpb_cnt_minus1: u32,
 ) -> Result<(), AllocError>
     requires { Valid (sub_layer_hrd sub_pic cpb_cnt_minus1) cpbs.now }
-    ensures { OnOk result (out.new ≡ put (sub_layer_hrd sub_pic cpb_cnt_minus1) cpbs.now out.old) }
+    ensures { OnOk result (out.new ≡ printed (sub_layer_hrd sub_pic cpb_cnt_minus1) cpbs.now out.old) }
 {
     for k in 0..cpbs.len() {
-        put_cpb(out, &cpbs[k], sub_pic, k)?;
+        let outer = out.open(k as u64)?;
+        print_cpb(out, &cpbs[k], sub_pic, k)?;
+        out.close(outer);
     }
     Ok(())
 }
 
-pub(crate) fn put_sub_layer_hrd_if(
-    out: &mut BitWriter,
+pub(crate) fn print_sub_layer_hrd_if(
+    out: &mut Printer,
     present: bool,
     cpbs: &Option<Vec<Cpb>>,
     sub_pic: bool,
     cpb_cnt_minus1: u32,
 ) -> Result<(), AllocError>
     requires { Valid (when present (sub_layer_hrd sub_pic cpb_cnt_minus1)) (option_map (λ v. v.items) cpbs.now) }
-    ensures { OnOk result (out.new ≡ put (when present (sub_layer_hrd sub_pic cpb_cnt_minus1)) (option_map (λ v. v.items) cpbs.now) out.old) }
+    ensures { OnOk result (out.new ≡ printed (when present (sub_layer_hrd sub_pic cpb_cnt_minus1)) (option_map (λ v. v.items) cpbs.now) out.old) }
 {
     match cpbs {
-        Some(cpbs) => put_sub_layer_hrd(out, cpbs, sub_pic, cpb_cnt_minus1),
+        Some(cpbs) => print_sub_layer_hrd(out, cpbs, sub_pic, cpb_cnt_minus1),
         None => Ok(()),
     }
 }

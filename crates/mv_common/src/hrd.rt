@@ -1,13 +1,13 @@
 ghost use Rattle.std.specs.Prelude.{◌≡◌, ◌≤◌, ◌++◌, OnOk, OnErr};
-ghost use Rattle.mv_syntax.specs.Table.{Valid, bits_of, read, put};
-ghost use Rattle.mv_syntax.specs.Answers.{Fills, Answers};
-ghost use Rattle.mv_common.specs.Faults.{means};
+ghost use Rattle.mv_syntax.specs.Table.{Valid, bits_of};
+ghost use Rattle.mv_syntax.specs.Printed.{printed};
+ghost use Rattle.mv_fields.specs.Reading.{AnswersShared, ReadsShared};
 ghost use Rattle.mv_common.specs.Hrd.{hrd_parameters, flags_before};
 
-use crate::fault::FieldFault;
-use crate::hrd_common::{HrdCommon, HrdFlags, flags_in_force, hrd_common_if, put_hrd_common_if};
-use crate::hrd_sub_layer::{HrdSubLayer, hrd_sub_layers_of, put_hrd_sub_layers};
+use crate::hrd_common::{HrdCommon, HrdFlags, flags_in_force, hrd_common_if, print_hrd_common_if};
+use crate::hrd_sub_layer::{HrdSubLayer, hrd_sub_layers_of, print_hrd_sub_layers};
 use mv_bits::{BitReader, BitWriter};
+use mv_fields::{Fault, Limit, Printer};
 use std::alloc::{AllocError, Global};
 use std::marker::Model;
 
@@ -45,9 +45,9 @@ pub(crate) fn hrd_of(
     common: bool,
     subs: u8,
     before: HrdFlags,
-) -> Result<Hrd, FieldFault>
+) -> Result<Hrd, Fault<Limit>>
     requires { subs ≤ 6 }
-    ensures { Fills (λ v. v) means bits.old bits.new result (read (hrd_parameters common subs before) bits.old.left) }
+    ensures { ReadsShared (hrd_parameters common subs before) bits.old bits.new result }
 {
     let common = hrd_common_if(bits, common)?;
     let flags = flags_in_force(&common, before);
@@ -56,30 +56,31 @@ pub(crate) fn hrd_of(
 }
 
 #[tactic(auto, unfolding(crate::specs::Hrd::hrd_parameters))]
-pub(crate) fn put_hrd(
-    out: &mut BitWriter,
+pub(crate) fn print_hrd(
+    out: &mut Printer,
     v: &Hrd,
     common: bool,
     subs: u8,
     before: HrdFlags,
 ) -> Result<(), AllocError>
     requires { Valid (hrd_parameters common subs before) v.now }
-    ensures { OnOk result (out.new ≡ put (hrd_parameters common subs before) v.now out.old) }
+    ensures { OnOk result (out.new ≡ printed (hrd_parameters common subs before) v.now out.old) }
 {
     let flags = flags_in_force(&v.common, before);
-    put_hrd_common_if(out, common, &v.common)?;
-    put_hrd_sub_layers(out, &v.sub_layers, subs, flags)
+    print_hrd_common_if(out, common, &v.common)?;
+    print_hrd_sub_layers(out, &v.sub_layers, subs, flags)?;
+    Ok(())
 }
 
 impl Hrd {
     /// Reads hrd_parameters (E.2.2).
     ///
     /// `NoBits` where the bits end before or in a field or hold no code there, and no earlier field is past its limit;
-    /// `Limit` where cpb_cnt_minus1 of a sub-layer is over 31 and all before it could be read; `Memory` where memory
+    /// `Breaks(Limit)` where cpb_cnt_minus1 of a sub-layer is over 31 and all before it could be read; `Memory` where memory
     /// runs out. After a fault the reader stands where it stood.
-    pub fn read(alloc: Global, bits: &mut BitReader, args: &HrdArgs) -> Result<Hrd, FieldFault>
+    pub fn read(alloc: Global, bits: &mut BitReader, args: &HrdArgs) -> Result<Hrd, Fault<Limit>>
         requires { args.now.subs ≤ 6 }
-        ensures { Answers (λ v. v) means (hrd_parameters args.now.common args.now.subs (flags_before args.now)) bits.old bits.new result }
+        ensures { AnswersShared (hrd_parameters args.now.common args.now.subs (flags_before args.now)) bits.old bits.new result }
     {
         let before = HrdFlags {
             nal: args.nal,
@@ -96,6 +97,22 @@ impl Hrd {
         }
     }
 
+    /// Prints hrd_parameters (E.2.2).
+    ///
+    /// `AllocError` where memory runs out.
+    pub fn print(&self, out: &mut Printer, args: &HrdArgs) -> Result<(), AllocError>
+        requires subs { args.now.subs ≤ 6 }
+        requires valid { Valid (hrd_parameters args.now.common args.now.subs (flags_before args.now)) self.now }
+        ensures { OnOk result (out.new ≡ printed (hrd_parameters args.now.common args.now.subs (flags_before args.now)) self.now out.old) }
+    {
+        let before = HrdFlags {
+            nal: args.nal,
+            vcl: args.vcl,
+            sub_pic: args.sub_pic,
+        };
+        print_hrd(out, self, args.common, args.subs, before)
+    }
+
     /// Writes hrd_parameters (E.2.2).
     ///
     /// `AllocError` where memory runs out: the writer is then unchanged.
@@ -105,13 +122,8 @@ impl Hrd {
         ensures ok { OnOk result (out.new ≡ out.old ++ bits_of (hrd_parameters args.now.common args.now.subs (flags_before args.now)) self.now) }
         ensures err { OnErr result (out.new ≡ out.old) }
     {
-        let before = HrdFlags {
-            nal: args.nal,
-            vcl: args.vcl,
-            sub_pic: args.sub_pic,
-        };
-        let mut own = out.empty();
-        put_hrd(&mut own, self, args.common, args.subs, before)?;
-        out.append(&own)
+        let mut own = Printer::beside(out);
+        self.print(&mut own, args)?;
+        own.append_to(out)
     }
 }

@@ -1,12 +1,11 @@
 ghost use Rattle.std.specs.Prelude.{◌≡◌, OnOk};
-ghost use Rattle.mv_syntax.specs.Table.{when, Valid, read, put};
-ghost use Rattle.mv_syntax.specs.Answers.{Fills};
-ghost use Rattle.mv_common.specs.Faults.{means};
+ghost use Rattle.mv_syntax.specs.Table.{when, Valid};
+ghost use Rattle.mv_syntax.specs.Printed.{printed};
+ghost use Rattle.mv_fields.specs.Reading.{ReadsShared};
 ghost use Rattle.mv_common.specs.Hrd.{hrd_common, in_force};
 
-use crate::fault::FieldFault;
-use crate::fields::{coded_set, put_u8, put_u8_if, u8_if, u8_of};
-use mv_bits::{BitReader, BitWriter};
+use mv_bits::BitReader;
+use mv_fields::{Fault, Limit, Printer, coded_set, u8_if, u8_of};
 use std::alloc::AllocError;
 
 /// The flags of the first group of hrd_parameters (E.2.2) that tell which schedules are coded for a sub-layer.
@@ -50,8 +49,8 @@ pub fn flags_in_force(common: &Option<HrdCommon>, before: HrdFlags) -> HrdFlags
 }
 
 #[tactic(auto, unfolding(crate::specs::Hrd::hrd_common))]
-fn hrd_common_of(bits: &mut BitReader) -> Result<HrdCommon, FieldFault>
-    ensures { Fills (λ v. v) means bits.old bits.new result (read hrd_common bits.old.left) }
+fn hrd_common_of(bits: &mut BitReader) -> Result<HrdCommon, Fault<Limit>>
+    ensures { ReadsShared hrd_common bits.old bits.new result }
 {
     let nal = u8_of(bits, 1)?;
     let vcl = u8_of(bits, 1)?;
@@ -76,37 +75,71 @@ fn hrd_common_of(bits: &mut BitReader) -> Result<HrdCommon, FieldFault>
 }
 
 #[tactic(auto, unfolding(crate::specs::Hrd::hrd_common))]
-fn put_hrd_common(out: &mut BitWriter, v: &HrdCommon) -> Result<(), AllocError>
+fn print_hrd_common(out: &mut Printer, v: &HrdCommon) -> Result<(), AllocError>
     requires { Valid hrd_common v.now }
-    ensures { OnOk result (out.new ≡ put hrd_common v.now out.old) }
+    ensures { OnOk result (out.new ≡ printed hrd_common v.now out.old) }
 {
     let any = v.nal_hrd_parameters_present_flag == 1 || v.vcl_hrd_parameters_present_flag == 1;
     let sub_pic = coded_set(v.sub_pic_hrd_params_present_flag);
-    put_u8(out, 1, v.nal_hrd_parameters_present_flag)?;
-    put_u8(out, 1, v.vcl_hrd_parameters_present_flag)?;
-    put_u8_if(out, any, 1, v.sub_pic_hrd_params_present_flag)?;
-    put_u8_if(out, sub_pic, 8, v.tick_divisor_minus2)?;
-    put_u8_if(
-        out,
+    out.flag(
+        "nal_hrd_parameters_present_flag",
+        v.nal_hrd_parameters_present_flag,
+    )?;
+    out.flag(
+        "vcl_hrd_parameters_present_flag",
+        v.vcl_hrd_parameters_present_flag,
+    )?;
+    out.flag_if(
+        any,
+        "sub_pic_hrd_params_present_flag",
+        v.sub_pic_hrd_params_present_flag,
+    )?;
+    out.u8_if(sub_pic, "tick_divisor_minus2", 8, v.tick_divisor_minus2)?;
+    out.u8_if(
         sub_pic,
+        "du_cpb_removal_delay_increment_length_minus1",
         5,
         v.du_cpb_removal_delay_increment_length_minus1,
     )?;
-    put_u8_if(out, sub_pic, 1, v.sub_pic_cpb_params_in_pic_timing_sei_flag)?;
-    put_u8_if(out, sub_pic, 5, v.dpb_output_delay_du_length_minus1)?;
-    put_u8_if(out, any, 4, v.bit_rate_scale)?;
-    put_u8_if(out, any, 4, v.cpb_size_scale)?;
-    put_u8_if(out, sub_pic, 4, v.cpb_size_du_scale)?;
-    put_u8_if(out, any, 5, v.initial_cpb_removal_delay_length_minus1)?;
-    put_u8_if(out, any, 5, v.au_cpb_removal_delay_length_minus1)?;
-    put_u8_if(out, any, 5, v.dpb_output_delay_length_minus1)
+    out.flag_if(
+        sub_pic,
+        "sub_pic_cpb_params_in_pic_timing_sei_flag",
+        v.sub_pic_cpb_params_in_pic_timing_sei_flag,
+    )?;
+    out.u8_if(
+        sub_pic,
+        "dpb_output_delay_du_length_minus1",
+        5,
+        v.dpb_output_delay_du_length_minus1,
+    )?;
+    out.u8_if(any, "bit_rate_scale", 4, v.bit_rate_scale)?;
+    out.u8_if(any, "cpb_size_scale", 4, v.cpb_size_scale)?;
+    out.u8_if(sub_pic, "cpb_size_du_scale", 4, v.cpb_size_du_scale)?;
+    out.u8_if(
+        any,
+        "initial_cpb_removal_delay_length_minus1",
+        5,
+        v.initial_cpb_removal_delay_length_minus1,
+    )?;
+    out.u8_if(
+        any,
+        "au_cpb_removal_delay_length_minus1",
+        5,
+        v.au_cpb_removal_delay_length_minus1,
+    )?;
+    out.u8_if(
+        any,
+        "dpb_output_delay_length_minus1",
+        5,
+        v.dpb_output_delay_length_minus1,
+    )
 }
 
 pub(crate) fn hrd_common_if(
     bits: &mut BitReader,
     present: bool,
-) -> Result<Option<HrdCommon>, FieldFault>
-    ensures { Fills (λ v. v) means bits.old bits.new result (read (when present hrd_common) bits.old.left) }
+) -> Result<Option<HrdCommon>, Fault<Limit>>
+    ensures { ReadsShared (when present hrd_common) bits.old bits.new result }
 {
     if !present {
         return Ok(None);
@@ -114,16 +147,16 @@ pub(crate) fn hrd_common_if(
     Ok(Some(hrd_common_of(bits)?))
 }
 
-pub(crate) fn put_hrd_common_if(
-    out: &mut BitWriter,
+pub(crate) fn print_hrd_common_if(
+    out: &mut Printer,
     present: bool,
     v: &Option<HrdCommon>,
 ) -> Result<(), AllocError>
     requires { Valid (when present hrd_common) v.now }
-    ensures { OnOk result (out.new ≡ put (when present hrd_common) v.now out.old) }
+    ensures { OnOk result (out.new ≡ printed (when present hrd_common) v.now out.old) }
 {
     match v {
-        Some(v) => put_hrd_common(out, v),
+        Some(v) => print_hrd_common(out, v),
         None => Ok(()),
     }
 }

@@ -1,16 +1,14 @@
 ghost use Rattle.std.specs.Prelude.{◌≡◌, ◌≤◌, OnOk};
-ghost use Rattle.mv_syntax.specs.Table.{Valid, read, put};
+ghost use Rattle.mv_syntax.specs.Table.{Valid};
 ghost use Rattle.mv_syntax.specs.Words.{or_zero};
-ghost use Rattle.mv_syntax.specs.Answers.{Fills};
-ghost use Rattle.mv_common.specs.Faults.{means};
+ghost use Rattle.mv_syntax.specs.Printed.{printed};
+ghost use Rattle.mv_fields.specs.Reading.{ReadsShared, ReadsSharedAs};
 ghost use Rattle.mv_common.specs.Hrd.{hrd_sub_layer, hrd_sub_layers};
 
-use crate::cpb::{Cpb, put_sub_layer_hrd_if, sub_layer_hrd_if};
-use crate::fault::FieldFault;
-use crate::fields::{coded_set, put_u8, put_u8_if, put_ue_if, u8_if, u8_of, ue_if};
+use crate::cpb::{Cpb, print_sub_layer_hrd_if, sub_layer_hrd_if};
 use crate::hrd_common::HrdFlags;
-use crate::limits::{put_ue_within_if, ue_within_if};
-use mv_bits::{BitReader, BitWriter};
+use mv_bits::BitReader;
+use mv_fields::{Fault, Limit, Printer, coded_set, u8_if, u8_of, ue_if, ue_limited_if};
 use std::alloc::{AllocError, Global};
 use std::marker::Model;
 
@@ -56,15 +54,15 @@ fn hrd_sub_layer_of(
     bits: &mut BitReader,
     flags: HrdFlags,
     i: u8,
-) -> Result<HrdSubLayer, FieldFault>
-    ensures { Fills (λ v. v) means bits.old bits.new result (read (hrd_sub_layer flags i) bits.old.left) }
+) -> Result<HrdSubLayer, Fault<Limit>>
+    ensures { ReadsShared (hrd_sub_layer flags i) bits.old bits.new result }
 {
     let fixed_pic_rate_general_flag = u8_of(bits, 1)?;
     let fixed_pic_rate_within_cvs_flag = u8_if(bits, fixed_pic_rate_general_flag != 1, 1)?;
     let within_cvs = fixed_pic_rate_within_cvs_flag.unwrap_or(1) == 1;
     let elemental_duration_in_tc_minus1 = ue_if(bits, within_cvs)?;
     let low_delay_hrd_flag = u8_if(bits, !within_cvs, 1)?;
-    let cpb_cnt_minus1 = ue_within_if(bits, !coded_set(low_delay_hrd_flag), 31)?;
+    let cpb_cnt_minus1 = ue_limited_if(bits, !coded_set(low_delay_hrd_flag), 31)?;
     let count = or_zero(cpb_cnt_minus1);
     let nal_sub_layer_hrd = sub_layer_hrd_if(alloc, bits, flags.nal, flags.sub_pic, count)?;
     let vcl_sub_layer_hrd = sub_layer_hrd_if(alloc, bits, flags.vcl, flags.sub_pic, count)?;
@@ -80,29 +78,38 @@ fn hrd_sub_layer_of(
 }
 
 #[tactic(auto, unfolding(crate::specs::Hrd::hrd_sub_layer))]
-fn put_hrd_sub_layer(
-    out: &mut BitWriter,
+fn print_hrd_sub_layer(
+    out: &mut Printer,
     v: &HrdSubLayer,
     flags: HrdFlags,
     i: usize,
 ) -> Result<(), AllocError>
     requires { Valid (hrd_sub_layer flags i) v.now }
-    ensures { OnOk result (out.new ≡ put (hrd_sub_layer flags i) v.now out.old) }
+    ensures { OnOk result (out.new ≡ printed (hrd_sub_layer flags i) v.now out.old) }
 {
     let within_cvs = v.fixed_pic_rate_within_cvs_flag.unwrap_or(1) == 1;
     let count = or_zero(v.cpb_cnt_minus1);
-    put_u8(out, 1, v.fixed_pic_rate_general_flag)?;
-    put_u8_if(
-        out,
+    out.flag("fixed_pic_rate_general_flag", v.fixed_pic_rate_general_flag)?;
+    out.flag_if(
         v.fixed_pic_rate_general_flag != 1,
-        1,
+        "fixed_pic_rate_within_cvs_flag",
         v.fixed_pic_rate_within_cvs_flag,
     )?;
-    put_ue_if(out, within_cvs, v.elemental_duration_in_tc_minus1)?;
-    put_u8_if(out, !within_cvs, 1, v.low_delay_hrd_flag)?;
-    put_ue_within_if(out, !coded_set(v.low_delay_hrd_flag), v.cpb_cnt_minus1, 31)?;
-    put_sub_layer_hrd_if(out, flags.nal, &v.nal_sub_layer_hrd, flags.sub_pic, count)?;
-    put_sub_layer_hrd_if(out, flags.vcl, &v.vcl_sub_layer_hrd, flags.sub_pic, count)
+    out.ue_if(
+        within_cvs,
+        "elemental_duration_in_tc_minus1",
+        v.elemental_duration_in_tc_minus1,
+    )?;
+    out.flag_if(!within_cvs, "low_delay_hrd_flag", v.low_delay_hrd_flag)?;
+    out.ue_limited_if(
+        !coded_set(v.low_delay_hrd_flag),
+        "cpb_cnt_minus1",
+        31,
+        v.cpb_cnt_minus1,
+    )?;
+    print_sub_layer_hrd_if(out, flags.nal, &v.nal_sub_layer_hrd, flags.sub_pic, count)?;
+    print_sub_layer_hrd_if(out, flags.vcl, &v.vcl_sub_layer_hrd, flags.sub_pic, count)?;
+    Ok(())
 }
 
 #[tactic(auto, using(mv_syntax::proofs::LoopLaws::item_steps), unfolding(crate::specs::Hrd::hrd_sub_layers))]
@@ -111,9 +118,9 @@ pub(crate) fn hrd_sub_layers_of(
     bits: &mut BitReader,
     subs: u8,
     flags: HrdFlags,
-) -> Result<Vec<HrdSubLayer>, FieldFault>
+) -> Result<Vec<HrdSubLayer>, Fault<Limit>>
     requires { subs ≤ 6 }
-    ensures { Fills (λ v. v.items) means bits.old bits.new result (read (hrd_sub_layers subs flags) bits.old.left) }
+    ensures { ReadsSharedAs (λ v. v.items) (hrd_sub_layers subs flags) bits.old bits.new result }
 {
     let turns = subs + 1;
     let mut sub_layers = Vec::new(alloc);
@@ -123,18 +130,20 @@ pub(crate) fn hrd_sub_layers_of(
     Ok(sub_layers)
 }
 
-#[tactic(auto, using(mv_syntax::proofs::LoopLaws::put_item_steps), unfolding(crate::specs::Hrd::hrd_sub_layers))]
-pub(crate) fn put_hrd_sub_layers(
-    out: &mut BitWriter,
+#[tactic(auto, using(mv_syntax::proofs::PrintingLoops::print_item_steps), unfolding(crate::specs::Hrd::hrd_sub_layers))]
+pub(crate) fn print_hrd_sub_layers(
+    out: &mut Printer,
     sub_layers: &[HrdSubLayer],
     subs: u8,
     flags: HrdFlags,
 ) -> Result<(), AllocError>
     requires { Valid (hrd_sub_layers subs flags) sub_layers.now }
-    ensures { OnOk result (out.new ≡ put (hrd_sub_layers subs flags) sub_layers.now out.old) }
+    ensures { OnOk result (out.new ≡ printed (hrd_sub_layers subs flags) sub_layers.now out.old) }
 {
     for i in 0..sub_layers.len() {
-        put_hrd_sub_layer(out, &sub_layers[i], flags, i)?;
+        let outer = out.open(i as u64)?;
+        print_hrd_sub_layer(out, &sub_layers[i], flags, i)?;
+        out.close(outer);
     }
     Ok(())
 }

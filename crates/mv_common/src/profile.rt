@@ -1,12 +1,11 @@
 ghost use Rattle.std.specs.Prelude.{◌≡◌, OnOk};
-ghost use Rattle.mv_syntax.specs.Table.{Valid, read, put};
-ghost use Rattle.mv_syntax.specs.Answers.{Fills};
-ghost use Rattle.mv_common.specs.Faults.{means};
+ghost use Rattle.mv_syntax.specs.Table.{Valid};
+ghost use Rattle.mv_syntax.specs.Printed.{printed};
+ghost use Rattle.mv_fields.specs.Reading.{ReadsShared};
 ghost use Rattle.mv_common.specs.Profile.{profile};
 
-use crate::fault::FieldFault;
-use crate::fields::{put_u8, put_u32, put_u64, u8_of, u32_of, u64_of};
-use mv_bits::{BitReader, BitWriter};
+use mv_bits::BitReader;
+use mv_fields::{Fault, Limit, Printer, u8_of, u32_of, u64_of};
 use std::alloc::AllocError;
 
 /// The 88 bits that describe a profile (7.3.3). Its names have no `general_` or `sub_layer_` prefix.
@@ -25,8 +24,8 @@ pub struct Profile {
 }
 
 #[tactic(auto, unfolding(crate::specs::Profile::profile))]
-pub(crate) fn profile_of(bits: &mut BitReader) -> Result<Profile, FieldFault>
-    ensures { Fills (λ v. v) means bits.old bits.new result (read profile bits.old.left) }
+pub(crate) fn profile_of(bits: &mut BitReader) -> Result<Profile, Fault<Limit>>
+    ensures { ReadsShared profile bits.old bits.new result }
 {
     Ok(Profile {
         profile_space: u8_of(bits, 2)?,
@@ -43,18 +42,18 @@ pub(crate) fn profile_of(bits: &mut BitReader) -> Result<Profile, FieldFault>
 }
 
 #[tactic(auto, unfolding(crate::specs::Profile::profile))]
-pub(crate) fn put_profile(out: &mut BitWriter, v: &Profile) -> Result<(), AllocError>
+pub(crate) fn print_profile(out: &mut Printer, v: &Profile) -> Result<(), AllocError>
     requires { Valid profile v.now }
-    ensures { OnOk result (out.new ≡ put profile v.now out.old) }
+    ensures { OnOk result (out.new ≡ printed profile v.now out.old) }
 {
-    put_u8(out, 2, v.profile_space)?;
-    put_u8(out, 1, v.tier_flag)?;
-    put_u8(out, 5, v.profile_idc)?;
-    put_u32(out, 32, v.compatibility_flags)?;
-    put_u8(out, 1, v.progressive_source_flag)?;
-    put_u8(out, 1, v.interlaced_source_flag)?;
-    put_u8(out, 1, v.non_packed_constraint_flag)?;
-    put_u8(out, 1, v.frame_only_constraint_flag)?;
-    put_u64(out, 43, v.constraint_43bits)?;
-    put_u8(out, 1, v.constraint_last_bit)
+    out.u8("profile_space", 2, v.profile_space)?;
+    out.flag("tier_flag", v.tier_flag)?;
+    out.u8("profile_idc", 5, v.profile_idc)?;
+    out.u32("compatibility_flags", 32, v.compatibility_flags)?;
+    out.flag("progressive_source_flag", v.progressive_source_flag)?;
+    out.flag("interlaced_source_flag", v.interlaced_source_flag)?;
+    out.flag("non_packed_constraint_flag", v.non_packed_constraint_flag)?;
+    out.flag("frame_only_constraint_flag", v.frame_only_constraint_flag)?;
+    out.u64("constraint_43bits", 43, v.constraint_43bits)?;
+    out.flag("constraint_last_bit", v.constraint_last_bit)
 }

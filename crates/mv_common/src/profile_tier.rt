@@ -1,15 +1,14 @@
 ghost use Rattle.std.specs.Prelude.{◌≡◌, ◌<◌, ◌≤◌, ◌++◌, length, slice_index, OnOk, OnErr, option_map};
-ghost use Rattle.mv_syntax.specs.Table.{when, Valid, bits_of, read, put};
+ghost use Rattle.mv_syntax.specs.Table.{when, Valid, bits_of};
 ghost use Rattle.mv_syntax.specs.Words.{over};
-ghost use Rattle.mv_syntax.specs.Answers.{Fills, Answers};
-ghost use Rattle.mv_common.specs.Faults.{means};
+ghost use Rattle.mv_syntax.specs.Printed.{printed};
+ghost use Rattle.mv_fields.specs.Reading.{AnswersShared, ReadsShared, ReadsSharedAs};
 ghost use Rattle.mv_common.specs.Profile.{profile};
 ghost use Rattle.mv_common.specs.ProfileTier.{sub_layer_flags, all_sub_layer_flags, reserved_pair, reserved_bits, sub_layer, sub_layers, profile_tier_level};
 
-use crate::fault::FieldFault;
-use crate::fields::{put_u8, put_u8_if, u8_if, u8_of};
-use crate::profile::{Profile, profile_of, put_profile};
+use crate::profile::{Profile, print_profile, profile_of};
 use mv_bits::{BitReader, BitWriter};
+use mv_fields::{Fault, Limit, Printer, u8_if, u8_of};
 use std::alloc::{AllocError, Global};
 use std::marker::Model;
 
@@ -50,8 +49,8 @@ impl Model for ProfileTier {
     } };
 }
 
-fn profile_if(bits: &mut BitReader, present: bool) -> Result<Option<Profile>, FieldFault>
-    ensures { Fills (λ v. v) means bits.old bits.new result (read (when present profile) bits.old.left) }
+fn profile_if(bits: &mut BitReader, present: bool) -> Result<Option<Profile>, Fault<Limit>>
+    ensures { ReadsShared (when present profile) bits.old bits.new result }
 {
     if !present {
         return Ok(None);
@@ -60,8 +59,8 @@ fn profile_if(bits: &mut BitReader, present: bool) -> Result<Option<Profile>, Fi
 }
 
 #[tactic(auto, unfolding(crate::specs::ProfileTier::sub_layer_flags))]
-fn sub_layer_flags_of(bits: &mut BitReader, i: u8) -> Result<(u8, u8), FieldFault>
-    ensures { Fills (λ v. v) means bits.old bits.new result (read (sub_layer_flags i) bits.old.left) }
+fn sub_layer_flags_of(bits: &mut BitReader, i: u8) -> Result<(u8, u8), Fault<Limit>>
+    ensures { ReadsShared (sub_layer_flags i) bits.old bits.new result }
 {
     Ok((u8_of(bits, 1)?, u8_of(bits, 1)?))
 }
@@ -71,8 +70,8 @@ fn all_sub_layer_flags_of(
     alloc: Global,
     bits: &mut BitReader,
     subs: u8,
-) -> Result<(Vec<u8>, Vec<u8>), FieldFault>
-    ensures { Fills (λ v. (v.0.items, v.1.items)) means bits.old bits.new result (read (all_sub_layer_flags subs) bits.old.left) }
+) -> Result<(Vec<u8>, Vec<u8>), Fault<Limit>>
+    ensures { ReadsSharedAs (λ v. (v.0.items, v.1.items)) (all_sub_layer_flags subs) bits.old bits.new result }
 {
     let mut profile_flags = Vec::new(alloc);
     let mut level_flags = Vec::new(alloc);
@@ -85,16 +84,16 @@ fn all_sub_layer_flags_of(
 }
 
 #[tactic(auto, unfolding(crate::specs::ProfileTier::reserved_pair))]
-fn reserved_pair_of(bits: &mut BitReader, i: u8) -> Result<u8, FieldFault>
-    ensures { Fills (λ v. v) means bits.old bits.new result (read (reserved_pair i) bits.old.left) }
+fn reserved_pair_of(bits: &mut BitReader, i: u8) -> Result<u8, Fault<Limit>>
+    ensures { ReadsShared (reserved_pair i) bits.old bits.new result }
 {
     Ok(u8_of(bits, 2)?)
 }
 
 #[tactic(auto, using(mv_syntax::proofs::LoopLaws::item_steps), unfolding(crate::specs::ProfileTier::reserved_bits))]
-fn reserved_bits_of(alloc: Global, bits: &mut BitReader, subs: u8) -> Result<Vec<u8>, FieldFault>
+fn reserved_bits_of(alloc: Global, bits: &mut BitReader, subs: u8) -> Result<Vec<u8>, Fault<Limit>>
     requires { subs ≤ 8 }
-    ensures { Fills (λ v. v.items) means bits.old bits.new result (read (reserved_bits subs) bits.old.left) }
+    ensures { ReadsSharedAs (λ v. v.items) (reserved_bits subs) bits.old bits.new result }
 {
     let mut reserved = Vec::new(alloc);
     for i in subs..8 {
@@ -107,9 +106,9 @@ fn reserved_bits_if(
     alloc: Global,
     bits: &mut BitReader,
     subs: u8,
-) -> Result<Option<Vec<u8>>, FieldFault>
+) -> Result<Option<Vec<u8>>, Fault<Limit>>
     requires { subs ≤ 8 }
-    ensures { Fills (λ v. option_map (λ w. w.items) v) means bits.old bits.new result (read (when (over 0 subs) (reserved_bits subs)) bits.old.left) }
+    ensures { ReadsSharedAs (λ v. option_map (λ w. w.items) v) (when (over 0 subs) (reserved_bits subs)) bits.old bits.new result }
 {
     if subs == 0 {
         return Ok(None);
@@ -123,10 +122,10 @@ fn sub_layer_of(
     profile_flags: &[u8],
     level_flags: &[u8],
     i: usize,
-) -> Result<(Option<Profile>, Option<u8>), FieldFault>
+) -> Result<(Option<Profile>, Option<u8>), Fault<Limit>>
     requires profiles { i < length profile_flags.now }
     requires levels { i < length level_flags.now }
-    ensures { Fills (λ v. v) means bits.old bits.new result (read (sub_layer profile_flags.now level_flags.now i) bits.old.left) }
+    ensures { ReadsShared (sub_layer profile_flags.now level_flags.now i) bits.old bits.new result }
 {
     let profile = profile_if(bits, flag_at(profile_flags, i) == 1)?;
     let level_idc = u8_if(bits, flag_at(level_flags, i) == 1, 8)?;
@@ -148,10 +147,10 @@ fn sub_layers_of(
     subs: u8,
     profile_flags: &[u8],
     level_flags: &[u8],
-) -> Result<(Vec<Option<Profile>>, Vec<Option<u8>>), FieldFault>
+) -> Result<(Vec<Option<Profile>>, Vec<Option<u8>>), Fault<Limit>>
     requires profiles { length profile_flags.now ≡ subs }
     requires levels { length level_flags.now ≡ subs }
-    ensures { Fills (λ v. (v.0.items, v.1.items)) means bits.old bits.new result (read (sub_layers subs profile_flags.now level_flags.now) bits.old.left) }
+    ensures { ReadsSharedAs (λ v. (v.0.items, v.1.items)) (sub_layers subs profile_flags.now level_flags.now) bits.old bits.new result }
 {
     let mut profiles = Vec::new(alloc);
     let mut levels = Vec::new(alloc);
@@ -163,82 +162,86 @@ fn sub_layers_of(
     Ok((profiles, levels))
 }
 
-fn put_profile_if(out: &mut BitWriter, present: bool, v: &Option<Profile>) -> Result<(), AllocError>
+fn print_profile_if(out: &mut Printer, present: bool, v: &Option<Profile>) -> Result<(), AllocError>
     requires { Valid (when present profile) v.now }
-    ensures { OnOk result (out.new ≡ put (when present profile) v.now out.old) }
+    ensures { OnOk result (out.new ≡ printed (when present profile) v.now out.old) }
 {
     match v {
-        Some(v) => put_profile(out, v),
+        Some(v) => print_profile(out, v),
         None => Ok(()),
     }
 }
 
 #[tactic(auto, unfolding(crate::specs::ProfileTier::sub_layer_flags))]
-fn put_sub_layer_flags(
-    out: &mut BitWriter,
+fn print_sub_layer_flags(
+    out: &mut Printer,
     profile_flag: u8,
     level_flag: u8,
     i: usize,
 ) -> Result<(), AllocError>
     requires { Valid (sub_layer_flags i) (profile_flag, level_flag) }
-    ensures { OnOk result (out.new ≡ put (sub_layer_flags i) (profile_flag, level_flag) out.old) }
+    ensures { OnOk result (out.new ≡ printed (sub_layer_flags i) (profile_flag, level_flag) out.old) }
 {
-    put_u8(out, 1, profile_flag)?;
-    put_u8(out, 1, level_flag)
+    out.flag("sub_layer_profile_present_flag", profile_flag)?;
+    out.flag("sub_layer_level_present_flag", level_flag)
 }
 
-#[tactic(auto, using(mv_syntax::proofs::LoopLaws::put_column_steps), unfolding(crate::specs::ProfileTier::all_sub_layer_flags))]
-fn put_all_sub_layer_flags(
-    out: &mut BitWriter,
+#[tactic(auto, using(mv_syntax::proofs::PrintingLoops::print_column_steps), unfolding(crate::specs::ProfileTier::all_sub_layer_flags))]
+fn print_all_sub_layer_flags(
+    out: &mut Printer,
     profile_flags: &[u8],
     level_flags: &[u8],
     subs: u8,
 ) -> Result<(), AllocError>
     requires { Valid (all_sub_layer_flags subs) (profile_flags.now, level_flags.now) }
-    ensures { OnOk result (out.new ≡ put (all_sub_layer_flags subs) (profile_flags.now, level_flags.now) out.old) }
+    ensures { OnOk result (out.new ≡ printed (all_sub_layer_flags subs) (profile_flags.now, level_flags.now) out.old) }
 {
     for i in 0..profile_flags.len() {
-        put_sub_layer_flags(out, profile_flags[i], level_flags[i], i)?;
+        let outer = out.open(i as u64)?;
+        print_sub_layer_flags(out, profile_flags[i], level_flags[i], i)?;
+        out.close(outer);
     }
     Ok(())
 }
 
 #[tactic(auto, unfolding(crate::specs::ProfileTier::reserved_pair))]
-fn put_reserved_pair(out: &mut BitWriter, i: usize, field: u8) -> Result<(), AllocError>
+fn print_reserved_pair(out: &mut Printer, i: usize, field: u8) -> Result<(), AllocError>
     requires { Valid (reserved_pair i) field }
-    ensures { OnOk result (out.new ≡ put (reserved_pair i) field out.old) }
+    ensures { OnOk result (out.new ≡ printed (reserved_pair i) field out.old) }
 {
-    put_u8(out, 2, field)
+    out.u8("reserved_zero_2bits", 2, field)
 }
 
-#[tactic(auto, using(mv_syntax::proofs::LoopLaws::put_item_steps), unfolding(crate::specs::ProfileTier::reserved_bits))]
-fn put_reserved_bits(out: &mut BitWriter, reserved: &[u8], subs: u8) -> Result<(), AllocError>
+#[tactic(auto, using(mv_syntax::proofs::PrintingLoops::print_item_steps), unfolding(crate::specs::ProfileTier::reserved_bits))]
+fn print_reserved_bits(out: &mut Printer, reserved: &[u8], subs: u8) -> Result<(), AllocError>
     requires { Valid (reserved_bits subs) reserved.now }
-    ensures { OnOk result (out.new ≡ put (reserved_bits subs) reserved.now out.old) }
+    ensures { OnOk result (out.new ≡ printed (reserved_bits subs) reserved.now out.old) }
 {
     for i in 0..reserved.len() {
-        put_reserved_pair(out, usize::from(subs) + i, reserved[i])?;
+        let outer = out.open(u64::from(subs) + i as u64)?;
+        print_reserved_pair(out, usize::from(subs) + i, reserved[i])?;
+        out.close(outer);
     }
     Ok(())
 }
 
-fn put_reserved_bits_if(
-    out: &mut BitWriter,
+fn print_reserved_bits_if(
+    out: &mut Printer,
     reserved: &Option<Vec<u8>>,
     subs: u8,
 ) -> Result<(), AllocError>
     requires { Valid (when (over 0 subs) (reserved_bits subs)) (option_map (λ v. v.items) reserved.now) }
-    ensures { OnOk result (out.new ≡ put (when (over 0 subs) (reserved_bits subs)) (option_map (λ v. v.items) reserved.now) out.old) }
+    ensures { OnOk result (out.new ≡ printed (when (over 0 subs) (reserved_bits subs)) (option_map (λ v. v.items) reserved.now) out.old) }
 {
     match reserved {
-        Some(reserved) => put_reserved_bits(out, reserved, subs),
+        Some(reserved) => print_reserved_bits(out, reserved, subs),
         None => Ok(()),
     }
 }
 
 #[tactic(auto, unfolding(crate::specs::ProfileTier::sub_layer))]
-fn put_sub_layer(
-    out: &mut BitWriter,
+fn print_sub_layer(
+    out: &mut Printer,
     v: &Option<Profile>,
     level_idc: Option<u8>,
     profile_flags: &[u8],
@@ -248,15 +251,20 @@ fn put_sub_layer(
     requires profiles { i < length profile_flags.now }
     requires levels { i < length level_flags.now }
     requires valid { Valid (sub_layer profile_flags.now level_flags.now i) (v.now, level_idc) }
-    ensures { OnOk result (out.new ≡ put (sub_layer profile_flags.now level_flags.now i) (v.now, level_idc) out.old) }
+    ensures { OnOk result (out.new ≡ printed (sub_layer profile_flags.now level_flags.now i) (v.now, level_idc) out.old) }
 {
-    put_profile_if(out, flag_at(profile_flags, i) == 1, v)?;
-    put_u8_if(out, flag_at(level_flags, i) == 1, 8, level_idc)
+    print_profile_if(out, flag_at(profile_flags, i) == 1, v)?;
+    out.u8_if(
+        flag_at(level_flags, i) == 1,
+        "sub_layer_level_idc",
+        8,
+        level_idc,
+    )
 }
 
-#[tactic(auto, using(mv_syntax::proofs::LoopLaws::put_column_steps), unfolding(crate::specs::ProfileTier::sub_layers))]
-fn put_sub_layers(
-    out: &mut BitWriter,
+#[tactic(auto, using(mv_syntax::proofs::PrintingLoops::print_column_steps), unfolding(crate::specs::ProfileTier::sub_layers))]
+fn print_sub_layers(
+    out: &mut Printer,
     profiles: &[Option<Profile>],
     levels: &[Option<u8>],
     subs: u8,
@@ -266,10 +274,12 @@ fn put_sub_layers(
     requires profiles { length profile_flags.now ≡ subs }
     requires levels { length level_flags.now ≡ subs }
     requires valid { Valid (sub_layers subs profile_flags.now level_flags.now) (profiles.now, levels.now) }
-    ensures { OnOk result (out.new ≡ put (sub_layers subs profile_flags.now level_flags.now) (profiles.now, levels.now) out.old) }
+    ensures { OnOk result (out.new ≡ printed (sub_layers subs profile_flags.now level_flags.now) (profiles.now, levels.now) out.old) }
 {
     for i in 0..profiles.len() {
-        put_sub_layer(out, &profiles[i], levels[i], profile_flags, level_flags, i)?;
+        let outer = out.open(i as u64)?;
+        print_sub_layer(out, &profiles[i], levels[i], profile_flags, level_flags, i)?;
+        out.close(outer);
     }
     Ok(())
 }
@@ -280,9 +290,9 @@ fn profile_tier_of(
     bits: &mut BitReader,
     present: bool,
     subs: u8,
-) -> Result<ProfileTier, FieldFault>
+) -> Result<ProfileTier, Fault<Limit>>
     requires { subs ≤ 6 }
-    ensures { Fills (λ v. v) means bits.old bits.new result (read (profile_tier_level present subs) bits.old.left) }
+    ensures { ReadsShared (profile_tier_level present subs) bits.old bits.new result }
 {
     let profile = profile_if(bits, present)?;
     let level_idc = u8_of(bits, 8)?;
@@ -307,29 +317,30 @@ fn profile_tier_of(
 }
 
 #[tactic(auto, unfolding(crate::specs::ProfileTier::profile_tier_level))]
-fn put_profile_tier(
-    out: &mut BitWriter,
+fn print_profile_tier(
+    out: &mut Printer,
     v: &ProfileTier,
     present: bool,
     subs: u8,
 ) -> Result<(), AllocError>
     requires { Valid (profile_tier_level present subs) v.now }
-    ensures { OnOk result (out.new ≡ put (profile_tier_level present subs) v.now out.old) }
+    ensures { OnOk result (out.new ≡ printed (profile_tier_level present subs) v.now out.old) }
 {
     let profile_flags = &v.sub_layer_profile_present_flag;
     let level_flags = &v.sub_layer_level_present_flag;
-    put_profile_if(out, present, &v.profile)?;
-    put_u8(out, 8, v.level_idc)?;
-    put_all_sub_layer_flags(out, profile_flags, level_flags, subs)?;
-    put_reserved_bits_if(out, &v.reserved_zero_2bits, subs)?;
-    put_sub_layers(
+    print_profile_if(out, present, &v.profile)?;
+    out.u8("level_idc", 8, v.level_idc)?;
+    print_all_sub_layer_flags(out, profile_flags, level_flags, subs)?;
+    print_reserved_bits_if(out, &v.reserved_zero_2bits, subs)?;
+    print_sub_layers(
         out,
         &v.sub_layer_profile,
         &v.sub_layer_level_idc,
         subs,
         profile_flags,
         level_flags,
-    )
+    )?;
+    Ok(())
 }
 
 impl ProfileTier {
@@ -341,9 +352,9 @@ impl ProfileTier {
         alloc: Global,
         bits: &mut BitReader,
         args: &ProfileArgs,
-    ) -> Result<ProfileTier, FieldFault>
+    ) -> Result<ProfileTier, Fault<Limit>>
         requires { args.now.subs ≤ 6 }
-        ensures { Answers (λ v. v) means (profile_tier_level args.now.present args.now.subs) bits.old bits.new result }
+        ensures { AnswersShared (profile_tier_level args.now.present args.now.subs) bits.old bits.new result }
     {
         let mut ahead = bits.fork();
         match profile_tier_of(alloc, &mut ahead, args.present, args.subs) {
@@ -355,6 +366,17 @@ impl ProfileTier {
         }
     }
 
+    /// Prints profile_tier_level (7.3.3).
+    ///
+    /// `AllocError` where memory runs out.
+    pub fn print(&self, out: &mut Printer, args: &ProfileArgs) -> Result<(), AllocError>
+        requires subs { args.now.subs ≤ 6 }
+        requires valid { Valid (profile_tier_level args.now.present args.now.subs) self.now }
+        ensures { OnOk result (out.new ≡ printed (profile_tier_level args.now.present args.now.subs) self.now out.old) }
+    {
+        print_profile_tier(out, self, args.present, args.subs)
+    }
+
     /// Writes profile_tier_level (7.3.3).
     ///
     /// `AllocError` where memory runs out: the writer is then unchanged.
@@ -364,8 +386,8 @@ impl ProfileTier {
         ensures ok { OnOk result (out.new ≡ out.old ++ bits_of (profile_tier_level args.now.present args.now.subs) self.now) }
         ensures err { OnErr result (out.new ≡ out.old) }
     {
-        let mut own = out.empty();
-        put_profile_tier(&mut own, self, args.present, args.subs)?;
-        out.append(&own)
+        let mut own = Printer::beside(out);
+        self.print(&mut own, args)?;
+        own.append_to(out)
     }
 }

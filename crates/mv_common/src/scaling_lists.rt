@@ -1,13 +1,12 @@
 ghost use Rattle.std.specs.Prelude.{◌≡◌, ◌≤◌, ◌+◌, ◌/◌, ◌++◌, OnOk, OnErr, if◌then◌else◌};
-ghost use Rattle.mv_syntax.specs.Table.{se, when, Valid, bits_of, read, put};
-ghost use Rattle.mv_syntax.specs.Answers.{Fills, Answers};
+ghost use Rattle.mv_syntax.specs.Table.{se, when, Valid, bits_of};
+ghost use Rattle.mv_syntax.specs.Printed.{printed};
 ghost use Rattle.mv_bits.specs.Cursor.{Takes};
-ghost use Rattle.mv_common.specs.Faults.{means};
-ghost use Rattle.mv_common.specs.ScalingLists.{num_coefficients, coefficient, coefficients, scaling_list, matrix_step, lists_of_size, scaling_list_data};
+ghost use Rattle.mv_fields.specs.Reading.{AnswersShared, ReadsShared, ReadsSharedAs, TakesBy};
+ghost use Rattle.mv_common.specs.ScalingLists.{matrix_id, num_coefficients, coefficient, coefficients, scaling_list, matrix_step, lists_of_size, scaling_list_data};
 
-use crate::fault::FieldFault;
-use crate::fields::{put_u8, put_ue_if, u8_of, ue_if};
-use mv_bits::{BitReader, BitWriter, NoBits};
+use mv_bits::{BitReader, BitWriter};
+use mv_fields::{Fault, Limit, Printer, se_if, u8_of, ue_if};
 use std::alloc::{AllocError, Global};
 use std::marker::Model;
 
@@ -82,53 +81,25 @@ fn count_coefficients(coded: bool, s: u8) -> u8
 
 /// How many lists size `s` has.
 fn count_lists(s: u8) -> u8
-    ensures { result ≡ 6 / matrix_step s }
+    ensures is { result ≡ 6 / matrix_step s }
+    ensures most { result ≤ 6 }
 {
     if s == 3 { 2 } else { 6 }
 }
 
-/// The next field se(v), where it is present.
-fn se_if(bits: &mut BitReader, present: bool) -> Result<Option<i32>, NoBits>
-    ensures { Takes bits.old bits.new result (read (when present se) bits.old.left) }
-{
-    if !present {
-        return Ok(None);
-    }
-    Ok(Some(bits.se()?))
-}
-
-/// Writes a field se(v).
-fn put_se(out: &mut BitWriter, field: i32) -> Result<(), AllocError>
-    requires { Valid se field }
-    ensures { OnOk result (out.new ≡ put se field out.old) }
-{
-    out.se(field)
-}
-
-/// Writes a field se(v), where it is present.
-fn put_se_if(out: &mut BitWriter, present: bool, field: Option<i32>) -> Result<(), AllocError>
-    requires { Valid (when present se) field }
-    ensures { OnOk result (out.new ≡ put (when present se) field out.old) }
-{
-    match field {
-        Some(field) => put_se(out, field),
-        None => Ok(()),
-    }
-}
-
 #[tactic(auto, unfolding(crate::specs::ScalingLists::coefficient))]
-fn coefficient_of(bits: &mut BitReader, k: u8) -> Result<i32, FieldFault>
-    ensures { Fills (λ v. v) means bits.old bits.new result (read (coefficient k) bits.old.left) }
+fn coefficient_of(bits: &mut BitReader, k: u8) -> Result<i32, Fault<Limit>>
+    ensures { ReadsShared (coefficient k) bits.old bits.new result }
 {
     Ok(bits.se()?)
 }
 
 #[tactic(auto, unfolding(crate::specs::ScalingLists::coefficient))]
-fn put_coefficient(out: &mut BitWriter, v: i32, k: usize) -> Result<(), AllocError>
+fn print_coefficient(out: &mut Printer, v: i32, k: usize) -> Result<(), AllocError>
     requires { Valid (coefficient k) v }
-    ensures { OnOk result (out.new ≡ put (coefficient k) v out.old) }
+    ensures { OnOk result (out.new ≡ printed (coefficient k) v out.old) }
 {
-    put_se(out, v)
+    out.se("scaling_list_delta_coef", v)
 }
 
 #[tactic(auto, using(mv_syntax::proofs::LoopLaws::item_steps), unfolding(crate::specs::ScalingLists::coefficients))]
@@ -137,8 +108,8 @@ fn coefficients_of(
     bits: &mut BitReader,
     coded: bool,
     s: u8,
-) -> Result<Vec<i32>, FieldFault>
-    ensures { Fills (λ v. v.items) means bits.old bits.new result (read (coefficients coded s) bits.old.left) }
+) -> Result<Vec<i32>, Fault<Limit>>
+    ensures { ReadsSharedAs (λ v. v.items) (coefficients coded s) bits.old bits.new result }
 {
     let turns = count_coefficients(coded, s);
     let mut list = Vec::new(alloc);
@@ -148,20 +119,22 @@ fn coefficients_of(
     Ok(list)
 }
 
-#[tactic(auto, using(mv_syntax::proofs::LoopLaws::put_item_steps), unfolding(crate::specs::ScalingLists::coefficients))]
-fn put_coefficients(out: &mut BitWriter, list: &[i32], coded: bool, s: u8) -> Result<(), AllocError>
+#[tactic(auto, using(mv_syntax::proofs::PrintingLoops::print_item_steps), unfolding(crate::specs::ScalingLists::coefficients))]
+fn print_coefficients(out: &mut Printer, list: &[i32], coded: bool, s: u8) -> Result<(), AllocError>
     requires { Valid (coefficients coded s) list.now }
-    ensures { OnOk result (out.new ≡ put (coefficients coded s) list.now out.old) }
+    ensures { OnOk result (out.new ≡ printed (coefficients coded s) list.now out.old) }
 {
     for k in 0..list.len() {
-        put_coefficient(out, list[k], k)?;
+        let outer = out.open(k as u64)?;
+        print_coefficient(out, list[k], k)?;
+        out.close(outer);
     }
     Ok(())
 }
 
 #[tactic(auto, unfolding(crate::specs::ScalingLists::scaling_list))]
-fn scaling_list_of(alloc: Global, bits: &mut BitReader, s: u8) -> Result<ScalingList, FieldFault>
-    ensures { Fills (λ v. v) means bits.old bits.new result (read (scaling_list s) bits.old.left) }
+fn scaling_list_of(alloc: Global, bits: &mut BitReader, s: u8) -> Result<ScalingList, Fault<Limit>>
+    ensures { ReadsShared (scaling_list s) bits.old bits.new result }
 {
     let scaling_list_pred_mode_flag = u8_of(bits, 1)?;
     let has_coefficients = scaling_list_pred_mode_flag == 1;
@@ -177,51 +150,67 @@ fn scaling_list_of(alloc: Global, bits: &mut BitReader, s: u8) -> Result<Scaling
 }
 
 #[tactic(auto, unfolding(crate::specs::ScalingLists::scaling_list))]
-fn put_scaling_list(out: &mut BitWriter, v: &ScalingList, s: u8) -> Result<(), AllocError>
+fn print_scaling_list(out: &mut Printer, v: &ScalingList, s: u8) -> Result<(), AllocError>
     requires { Valid (scaling_list s) v.now }
-    ensures { OnOk result (out.new ≡ put (scaling_list s) v.now out.old) }
+    ensures { OnOk result (out.new ≡ printed (scaling_list s) v.now out.old) }
 {
     let has_coefficients = v.scaling_list_pred_mode_flag == 1;
-    put_u8(out, 1, v.scaling_list_pred_mode_flag)?;
-    put_ue_if(out, !has_coefficients, v.scaling_list_pred_matrix_id_delta)?;
-    put_se_if(
-        out,
+    out.flag("scaling_list_pred_mode_flag", v.scaling_list_pred_mode_flag)?;
+    out.ue_if(
+        !has_coefficients,
+        "scaling_list_pred_matrix_id_delta",
+        v.scaling_list_pred_matrix_id_delta,
+    )?;
+    out.se_if(
         has_coefficients && s > 1,
+        "scaling_list_dc_coef_minus8",
         v.scaling_list_dc_coef_minus8,
     )?;
-    put_coefficients(out, &v.scaling_list_delta_coef, has_coefficients, s)
+    print_coefficients(out, &v.scaling_list_delta_coef, has_coefficients, s)?;
+    Ok(())
 }
 
-#[tactic(auto, using(mv_syntax::proofs::LoopLaws::item_steps))]
+#[tactic(auto, using(mv_syntax::proofs::LoopLaws::item_steps), unfolding(mv_syntax::specs::Loops::each, crate::specs::ScalingLists::lists_of_size))]
 fn lists_of_size_of(
     alloc: Global,
     bits: &mut BitReader,
     s: u8,
-) -> Result<ScalingListsOfSize, FieldFault>
-    ensures { Fills (λ v. v) means bits.old bits.new result (read (lists_of_size s) bits.old.left) }
+) -> Result<ScalingListsOfSize, Fault<Limit>>
+    ensures { ReadsShared (lists_of_size s) bits.old bits.new result }
 {
     let turns = count_lists(s);
     let mut lists = Vec::new(alloc);
-    for _ in 0..turns {
+    for k in 0..turns {
         lists.push(scaling_list_of(alloc, bits, s)?)?;
     }
     Ok(ScalingListsOfSize { lists })
 }
 
-#[tactic(auto, using(mv_syntax::proofs::LoopLaws::put_item_steps))]
-fn put_lists_of_size(out: &mut BitWriter, lists: &[ScalingList], s: u8) -> Result<(), AllocError>
-    requires { Valid (lists_of_size s) lists.now }
-    ensures { OnOk result (out.new ≡ put (lists_of_size s) lists.now out.old) }
+/// The number of the matrix of turn k of size `s`.
+fn matrix_id(s: u8, k: u8) -> u8
+    requires { k ≤ 6 }
+    ensures { result ≡ matrix_id s k }
 {
-    for v in lists {
-        put_scaling_list(out, v, s)?;
+    if s == 3 { 3 * k } else { k }
+}
+
+#[tactic(auto, using(mv_syntax::proofs::PrintingLoops::print_numbered_steps), unfolding(mv_syntax::specs::Loops::each, crate::specs::ScalingLists::lists_of_size))]
+fn print_lists_of_size(out: &mut Printer, lists: &[ScalingList], s: u8) -> Result<(), AllocError>
+    requires { Valid (lists_of_size s) lists.now }
+    ensures { OnOk result (out.new ≡ printed (lists_of_size s) lists.now out.old) }
+{
+    let turns = count_lists(s);
+    for k in 0..turns {
+        let outer = out.open(u64::from(matrix_id(s, k)))?;
+        print_scaling_list(out, &lists[usize::from(k)], s)?;
+        out.close(outer);
     }
     Ok(())
 }
 
 #[tactic(auto, using(mv_syntax::proofs::LoopLaws::item_steps), unfolding(crate::specs::ScalingLists::scaling_list_data))]
-fn scaling_lists_of(alloc: Global, bits: &mut BitReader) -> Result<ScalingLists, FieldFault>
-    ensures { Fills (λ v. v) means bits.old bits.new result (read scaling_list_data bits.old.left) }
+fn scaling_lists_of(alloc: Global, bits: &mut BitReader) -> Result<ScalingLists, Fault<Limit>>
+    ensures { ReadsShared scaling_list_data bits.old bits.new result }
 {
     let mut sizes = Vec::new(alloc);
     for s in 0..4 {
@@ -230,31 +219,31 @@ fn scaling_lists_of(alloc: Global, bits: &mut BitReader) -> Result<ScalingLists,
     Ok(ScalingLists { sizes })
 }
 
-fn put_size(out: &mut BitWriter, v: &ScalingListsOfSize, s: u8) -> Result<(), AllocError>
+fn print_size(out: &mut Printer, v: &ScalingListsOfSize, s: u8) -> Result<(), AllocError>
     requires { Valid (lists_of_size s) v.now }
-    ensures { OnOk result (out.new ≡ put (lists_of_size s) v.now out.old) }
+    ensures { OnOk result (out.new ≡ printed (lists_of_size s) v.now out.old) }
 {
-    put_lists_of_size(out, &v.lists, s)
+    print_lists_of_size(out, &v.lists, s)
 }
 
-#[tactic(auto, using(mv_syntax::proofs::LoopLaws::put_item_steps), unfolding(crate::specs::ScalingLists::scaling_list_data))]
-fn put_sizes(out: &mut BitWriter, sizes: &[ScalingListsOfSize]) -> Result<(), AllocError>
+#[tactic(auto, using(mv_syntax::proofs::PrintingLoops::print_item_steps), unfolding(crate::specs::ScalingLists::scaling_list_data))]
+fn print_sizes(out: &mut Printer, sizes: &[ScalingListsOfSize]) -> Result<(), AllocError>
     requires { Valid scaling_list_data sizes.now }
-    ensures { OnOk result (out.new ≡ put scaling_list_data sizes.now out.old) }
+    ensures { OnOk result (out.new ≡ printed scaling_list_data sizes.now out.old) }
 {
-    let mut s: u8 = 0;
-    for v in sizes {
-        put_size(out, v, s)?;
-        s += 1;
+    for s in 0..4u8 {
+        let outer = out.open(u64::from(s))?;
+        print_size(out, &sizes[usize::from(s)], s)?;
+        out.close(outer);
     }
     Ok(())
 }
 
-fn put_scaling_lists(out: &mut BitWriter, v: &ScalingLists) -> Result<(), AllocError>
+fn print_scaling_lists(out: &mut Printer, v: &ScalingLists) -> Result<(), AllocError>
     requires { Valid scaling_list_data v.now }
-    ensures { OnOk result (out.new ≡ put scaling_list_data v.now out.old) }
+    ensures { OnOk result (out.new ≡ printed scaling_list_data v.now out.old) }
 {
-    put_sizes(out, &v.sizes)
+    print_sizes(out, &v.sizes)
 }
 
 impl ScalingLists {
@@ -266,8 +255,8 @@ impl ScalingLists {
         alloc: Global,
         bits: &mut BitReader,
         _args: &ScalingArgs,
-    ) -> Result<ScalingLists, FieldFault>
-        ensures { Answers (λ v. v) means scaling_list_data bits.old bits.new result }
+    ) -> Result<ScalingLists, Fault<Limit>>
+        ensures { AnswersShared scaling_list_data bits.old bits.new result }
     {
         let mut ahead = bits.fork();
         match scaling_lists_of(alloc, &mut ahead) {
@@ -279,16 +268,26 @@ impl ScalingLists {
         }
     }
 
+    /// Prints scaling_list_data (7.3.4).
+    ///
+    /// `AllocError` where memory runs out.
+    pub fn print(&self, out: &mut Printer, _args: &ScalingArgs) -> Result<(), AllocError>
+        requires { Valid scaling_list_data self.now }
+        ensures { OnOk result (out.new ≡ printed scaling_list_data self.now out.old) }
+    {
+        print_scaling_lists(out, self)
+    }
+
     /// Writes scaling_list_data (7.3.4).
     ///
     /// `AllocError` where memory runs out: the writer is then unchanged.
-    pub fn write(&self, out: &mut BitWriter, _args: &ScalingArgs) -> Result<(), AllocError>
+    pub fn write(&self, out: &mut BitWriter, args: &ScalingArgs) -> Result<(), AllocError>
         requires { Valid scaling_list_data self.now }
         ensures ok { OnOk result (out.new ≡ out.old ++ bits_of scaling_list_data self.now) }
         ensures err { OnErr result (out.new ≡ out.old) }
     {
-        let mut own = out.empty();
-        put_scaling_lists(&mut own, self)?;
-        out.append(&own)
+        let mut own = Printer::beside(out);
+        self.print(&mut own, args)?;
+        own.append_to(out)
     }
 }

@@ -2,6 +2,7 @@ ghost use Rattle.std.specs.Prelude.{◌≤◌};
 
 use super::*;
 use mv_bits::{BitReader, BitWriter};
+use mv_fields::{Fault, Limit};
 use std::alloc::{AllocError, Global};
 use std::test::Fail;
 
@@ -29,7 +30,7 @@ fn profile_tier_again(
     alloc: Global,
     bytes: &[u8],
     args: &ProfileArgs,
-) -> Result<(ProfileTier, Vec<u8>), FieldFault>
+) -> Result<(ProfileTier, Vec<u8>), Fault<Limit>>
     requires { args.now.subs ≤ 6 }
 {
     let mut bits = BitReader::new(bytes);
@@ -39,7 +40,7 @@ fn profile_tier_again(
     Ok((value, whole(out)?))
 }
 
-fn hrd_again(alloc: Global, bytes: &[u8], args: &HrdArgs) -> Result<(Hrd, Vec<u8>), FieldFault>
+fn hrd_again(alloc: Global, bytes: &[u8], args: &HrdArgs) -> Result<(Hrd, Vec<u8>), Fault<Limit>>
     requires { args.now.subs ≤ 6 }
 {
     let mut bits = BitReader::new(bytes);
@@ -49,7 +50,7 @@ fn hrd_again(alloc: Global, bytes: &[u8], args: &HrdArgs) -> Result<(Hrd, Vec<u8
     Ok((value, whole(out)?))
 }
 
-fn vui_again(alloc: Global, bytes: &[u8], args: &VuiArgs) -> Result<(Vui, Vec<u8>), FieldFault>
+fn vui_again(alloc: Global, bytes: &[u8], args: &VuiArgs) -> Result<(Vui, Vec<u8>), Fault<Limit>>
     requires { args.now.subs ≤ 6 }
 {
     let mut bits = BitReader::new(bytes);
@@ -216,11 +217,11 @@ fn hrd_by_flags_before(rt: HostRuntime) -> Result<(), Fail> {
 // 0011 and the code of 32 or 31, cut bits, and no bits. A reader that refused stands where it stood.
 #[test]
 fn hrd_faults(rt: HostRuntime) {
-    let rows: [(&[u8], Option<FieldFault>, Option<u64>); 4] = [
-        (&[0x30, 0x42], Some(FieldFault::Limit), Some(3)),
+    let rows: [(&[u8], Option<Fault<Limit>>, Option<u64>); 4] = [
+        (&[0x30, 0x42], Some(Fault::Breaks(Limit)), Some(3)),
         (&[0x30, 0x40], None, None),
-        (&[0x30], Some(FieldFault::NoBits), Some(3)),
-        (&[], Some(FieldFault::NoBits), None),
+        (&[0x30], Some(Fault::NoBits), Some(3)),
+        (&[], Some(Fault::NoBits), None),
     ];
     for (bytes, fault, next) in rows {
         let mut bits = BitReader::new(bytes);

@@ -1,23 +1,20 @@
 ghost use Rattle.std.specs.Prelude.{◌≡◌, ◌≤◌, ◌++◌, true, OnOk, OnErr, option_map};
-ghost use Rattle.mv_syntax.specs.Table.{when, Valid, bits_of, read, put};
-ghost use Rattle.mv_syntax.specs.Answers.{Fills, Answers};
-ghost use Rattle.mv_common.specs.Faults.{means};
+ghost use Rattle.mv_syntax.specs.Table.{when, Valid, bits_of};
+ghost use Rattle.mv_syntax.specs.Printed.{printed};
+ghost use Rattle.mv_fields.specs.Reading.{AnswersShared, ReadsShared};
 ghost use Rattle.mv_common.specs.Hrd.{hrd_parameters};
 ghost use Rattle.mv_common.specs.Vui.{no_flags, vui_timing, vui_parameters};
 
-use crate::fault::FieldFault;
-use crate::fields::{
-    coded_set, put_u8, put_u8_if, put_u32_if, put_ue_if, u8_if, u8_of, u32_if, ue_if,
-};
-use crate::hrd::{Hrd, hrd_of, put_hrd};
+use crate::hrd::{Hrd, hrd_of, print_hrd};
 use crate::hrd_common::HrdFlags;
 use crate::vui_parts::{
     AspectRatio, BitstreamRestriction, ChromaLocation, DisplayWindow, Overscan, VideoSignalType,
     aspect_ratio_of, bitstream_restriction_of, chroma_location_of, display_window_of, overscan_of,
-    put_aspect_ratio, put_bitstream_restriction, put_chroma_location, put_display_window,
-    put_overscan, put_video_signal_type, video_signal_type_of,
+    print_aspect_ratio, print_bitstream_restriction, print_chroma_location, print_display_window,
+    print_overscan, print_video_signal_type, video_signal_type_of,
 };
 use mv_bits::{BitReader, BitWriter};
+use mv_fields::{Fault, Limit, Printer, coded_set, u8_if, u8_of, u32_if, ue_if};
 use std::alloc::{AllocError, Global};
 use std::marker::Model;
 
@@ -100,9 +97,9 @@ fn hrd_if(
     bits: &mut BitReader,
     present: bool,
     subs: u8,
-) -> Result<Option<Hrd>, FieldFault>
+) -> Result<Option<Hrd>, Fault<Limit>>
     requires { subs ≤ 6 }
-    ensures { Fills (λ v. v) means bits.old bits.new result (read (when present (hrd_parameters true subs no_flags)) bits.old.left) }
+    ensures { ReadsShared (when present (hrd_parameters true subs no_flags)) bits.old bits.new result }
 {
     if !present {
         return Ok(None);
@@ -110,25 +107,25 @@ fn hrd_if(
     Ok(Some(hrd_of(alloc, bits, true, subs, NO_FLAGS)?))
 }
 
-fn put_hrd_if(
-    out: &mut BitWriter,
+fn print_hrd_if(
+    out: &mut Printer,
     present: bool,
     v: &Option<Hrd>,
     subs: u8,
 ) -> Result<(), AllocError>
     requires { Valid (when present (hrd_parameters true subs no_flags)) v.now }
-    ensures { OnOk result (out.new ≡ put (when present (hrd_parameters true subs no_flags)) v.now out.old) }
+    ensures { OnOk result (out.new ≡ printed (when present (hrd_parameters true subs no_flags)) v.now out.old) }
 {
     match v {
-        Some(v) => put_hrd(out, v, true, subs, NO_FLAGS),
+        Some(v) => print_hrd(out, v, true, subs, NO_FLAGS),
         None => Ok(()),
     }
 }
 
 #[tactic(auto, unfolding(crate::specs::Vui::vui_timing))]
-fn vui_timing_of(alloc: Global, bits: &mut BitReader, subs: u8) -> Result<VuiTiming, FieldFault>
+fn vui_timing_of(alloc: Global, bits: &mut BitReader, subs: u8) -> Result<VuiTiming, Fault<Limit>>
     requires { subs ≤ 6 }
-    ensures { Fills (λ v. v) means bits.old bits.new result (read (vui_timing subs) bits.old.left) }
+    ensures { ReadsShared (vui_timing subs) bits.old bits.new result }
 {
     let vui_timing_info_present_flag = u8_of(bits, 1)?;
     let present = vui_timing_info_present_flag == 1;
@@ -158,33 +155,50 @@ fn vui_timing_of(alloc: Global, bits: &mut BitReader, subs: u8) -> Result<VuiTim
 }
 
 #[tactic(auto, unfolding(crate::specs::Vui::vui_timing))]
-fn put_vui_timing(out: &mut BitWriter, v: &VuiTiming, subs: u8) -> Result<(), AllocError>
+fn print_vui_timing(out: &mut Printer, v: &VuiTiming, subs: u8) -> Result<(), AllocError>
     requires { Valid (vui_timing subs) v.now }
-    ensures { OnOk result (out.new ≡ put (vui_timing subs) v.now out.old) }
+    ensures { OnOk result (out.new ≡ printed (vui_timing subs) v.now out.old) }
 {
     let present = v.vui_timing_info_present_flag == 1;
-    put_u8(out, 1, v.vui_timing_info_present_flag)?;
-    put_u32_if(out, present, 32, v.vui_num_units_in_tick)?;
-    put_u32_if(out, present, 32, v.vui_time_scale)?;
-    put_u8_if(out, present, 1, v.vui_poc_proportional_to_timing_flag)?;
-    put_ue_if(
-        out,
+    out.flag(
+        "vui_timing_info_present_flag",
+        v.vui_timing_info_present_flag,
+    )?;
+    out.u32_if(
+        present,
+        "vui_num_units_in_tick",
+        32,
+        v.vui_num_units_in_tick,
+    )?;
+    out.u32_if(present, "vui_time_scale", 32, v.vui_time_scale)?;
+    out.flag_if(
+        present,
+        "vui_poc_proportional_to_timing_flag",
+        v.vui_poc_proportional_to_timing_flag,
+    )?;
+    out.ue_if(
         coded_set(v.vui_poc_proportional_to_timing_flag),
+        "vui_num_ticks_poc_diff_one_minus1",
         v.vui_num_ticks_poc_diff_one_minus1,
     )?;
-    put_u8_if(out, present, 1, v.vui_hrd_parameters_present_flag)?;
-    put_hrd_if(
+    out.flag_if(
+        present,
+        "vui_hrd_parameters_present_flag",
+        v.vui_hrd_parameters_present_flag,
+    )?;
+    print_hrd_if(
         out,
         coded_set(v.vui_hrd_parameters_present_flag),
         &v.hrd_parameters,
         subs,
-    )
+    )?;
+    Ok(())
 }
 
 #[tactic(auto, unfolding(crate::specs::Vui::vui_parameters))]
-fn vui_of(alloc: Global, bits: &mut BitReader, subs: u8) -> Result<Vui, FieldFault>
+fn vui_of(alloc: Global, bits: &mut BitReader, subs: u8) -> Result<Vui, Fault<Limit>>
     requires { subs ≤ 6 }
-    ensures { Fills (λ v. v) means bits.old bits.new result (read (vui_parameters subs) bits.old.left) }
+    ensures { ReadsShared (vui_parameters subs) bits.old bits.new result }
 {
     Ok(Vui {
         aspect_ratio: aspect_ratio_of(bits)?,
@@ -201,31 +215,38 @@ fn vui_of(alloc: Global, bits: &mut BitReader, subs: u8) -> Result<Vui, FieldFau
 }
 
 #[tactic(auto, unfolding(crate::specs::Vui::vui_parameters))]
-fn put_vui(out: &mut BitWriter, v: &Vui, subs: u8) -> Result<(), AllocError>
+fn print_vui(out: &mut Printer, v: &Vui, subs: u8) -> Result<(), AllocError>
     requires { Valid (vui_parameters subs) v.now }
-    ensures { OnOk result (out.new ≡ put (vui_parameters subs) v.now out.old) }
+    ensures { OnOk result (out.new ≡ printed (vui_parameters subs) v.now out.old) }
 {
-    put_aspect_ratio(out, &v.aspect_ratio)?;
-    put_overscan(out, &v.overscan)?;
-    put_video_signal_type(out, &v.video_signal_type)?;
-    put_chroma_location(out, &v.chroma_location)?;
-    put_u8(out, 1, v.neutral_chroma_indication_flag)?;
-    put_u8(out, 1, v.field_seq_flag)?;
-    put_u8(out, 1, v.frame_field_info_present_flag)?;
-    put_display_window(out, &v.display_window)?;
-    put_vui_timing(out, &v.timing, subs)?;
-    put_bitstream_restriction(out, &v.bitstream_restriction)
+    print_aspect_ratio(out, &v.aspect_ratio)?;
+    print_overscan(out, &v.overscan)?;
+    print_video_signal_type(out, &v.video_signal_type)?;
+    print_chroma_location(out, &v.chroma_location)?;
+    out.flag(
+        "neutral_chroma_indication_flag",
+        v.neutral_chroma_indication_flag,
+    )?;
+    out.flag("field_seq_flag", v.field_seq_flag)?;
+    out.flag(
+        "frame_field_info_present_flag",
+        v.frame_field_info_present_flag,
+    )?;
+    print_display_window(out, &v.display_window)?;
+    print_vui_timing(out, &v.timing, subs)?;
+    print_bitstream_restriction(out, &v.bitstream_restriction)?;
+    Ok(())
 }
 
 impl Vui {
     /// Reads vui_parameters (E.2.1).
     ///
     /// `NoBits` where the bits end before or in a field or hold no code there, and no earlier field is past its limit;
-    /// `Limit` where cpb_cnt_minus1 of a sub-layer is over 31 and all before it could be read; `Memory` where memory
+    /// `Breaks(Limit)` where cpb_cnt_minus1 of a sub-layer is over 31 and all before it could be read; `Memory` where memory
     /// runs out. After a fault the reader stands where it stood.
-    pub fn read(alloc: Global, bits: &mut BitReader, args: &VuiArgs) -> Result<Vui, FieldFault>
+    pub fn read(alloc: Global, bits: &mut BitReader, args: &VuiArgs) -> Result<Vui, Fault<Limit>>
         requires { args.now.subs ≤ 6 }
-        ensures { Answers (λ v. v) means (vui_parameters args.now.subs) bits.old bits.new result }
+        ensures { AnswersShared (vui_parameters args.now.subs) bits.old bits.new result }
     {
         let mut ahead = bits.fork();
         match vui_of(alloc, &mut ahead, args.subs) {
@@ -237,6 +258,17 @@ impl Vui {
         }
     }
 
+    /// Prints vui_parameters (E.2.1).
+    ///
+    /// `AllocError` where memory runs out.
+    pub fn print(&self, out: &mut Printer, args: &VuiArgs) -> Result<(), AllocError>
+        requires subs { args.now.subs ≤ 6 }
+        requires valid { Valid (vui_parameters args.now.subs) self.now }
+        ensures { OnOk result (out.new ≡ printed (vui_parameters args.now.subs) self.now out.old) }
+    {
+        print_vui(out, self, args.subs)
+    }
+
     /// Writes vui_parameters (E.2.1).
     ///
     /// `AllocError` where memory runs out: the writer is then unchanged.
@@ -246,8 +278,8 @@ impl Vui {
         ensures ok { OnOk result (out.new ≡ out.old ++ bits_of (vui_parameters args.now.subs) self.now) }
         ensures err { OnErr result (out.new ≡ out.old) }
     {
-        let mut own = out.empty();
-        put_vui(&mut own, self, args.subs)?;
-        out.append(&own)
+        let mut own = Printer::beside(out);
+        self.print(&mut own, args)?;
+        own.append_to(out)
     }
 }

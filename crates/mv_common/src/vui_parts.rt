@@ -1,14 +1,11 @@
 ghost use Rattle.std.specs.Prelude.{◌≡◌, OnOk};
-ghost use Rattle.mv_syntax.specs.Table.{Valid, read, put};
-ghost use Rattle.mv_syntax.specs.Answers.{Fills};
-ghost use Rattle.mv_common.specs.Faults.{means};
+ghost use Rattle.mv_syntax.specs.Table.{Valid};
+ghost use Rattle.mv_syntax.specs.Printed.{printed};
+ghost use Rattle.mv_fields.specs.Reading.{ReadsShared};
 ghost use Rattle.mv_common.specs.Vui.{aspect_ratio, overscan, video_signal_type, chroma_location, display_window, bitstream_restriction};
 
-use crate::fault::FieldFault;
-use crate::fields::{
-    coded_set, put_u8, put_u8_if, put_u16_if, put_ue_if, u8_if, u8_of, u16_if, ue_if,
-};
-use mv_bits::{BitReader, BitWriter};
+use mv_bits::BitReader;
+use mv_fields::{Fault, Limit, Printer, coded_set, u8_if, u8_of, u16_if, ue_if};
 use std::alloc::AllocError;
 
 /// The aspect ratio of the samples.
@@ -72,8 +69,8 @@ pub struct BitstreamRestriction {
 }
 
 #[tactic(auto, unfolding(crate::specs::Vui::aspect_ratio))]
-pub(crate) fn aspect_ratio_of(bits: &mut BitReader) -> Result<AspectRatio, FieldFault>
-    ensures { Fills (λ v. v) means bits.old bits.new result (read aspect_ratio bits.old.left) }
+pub(crate) fn aspect_ratio_of(bits: &mut BitReader) -> Result<AspectRatio, Fault<Limit>>
+    ensures { ReadsShared aspect_ratio bits.old bits.new result }
 {
     let aspect_ratio_info_present_flag = u8_of(bits, 1)?;
     let aspect_ratio_idc = u8_if(bits, aspect_ratio_info_present_flag == 1, 8)?;
@@ -87,25 +84,28 @@ pub(crate) fn aspect_ratio_of(bits: &mut BitReader) -> Result<AspectRatio, Field
 }
 
 #[tactic(auto, unfolding(crate::specs::Vui::aspect_ratio))]
-pub(crate) fn put_aspect_ratio(out: &mut BitWriter, v: &AspectRatio) -> Result<(), AllocError>
+pub(crate) fn print_aspect_ratio(out: &mut Printer, v: &AspectRatio) -> Result<(), AllocError>
     requires { Valid aspect_ratio v.now }
-    ensures { OnOk result (out.new ≡ put aspect_ratio v.now out.old) }
+    ensures { OnOk result (out.new ≡ printed aspect_ratio v.now out.old) }
 {
     let extended = v.aspect_ratio_idc.unwrap_or(0) == 255;
-    put_u8(out, 1, v.aspect_ratio_info_present_flag)?;
-    put_u8_if(
-        out,
+    out.flag(
+        "aspect_ratio_info_present_flag",
+        v.aspect_ratio_info_present_flag,
+    )?;
+    out.u8_if(
         v.aspect_ratio_info_present_flag == 1,
+        "aspect_ratio_idc",
         8,
         v.aspect_ratio_idc,
     )?;
-    put_u16_if(out, extended, 16, v.sar_width)?;
-    put_u16_if(out, extended, 16, v.sar_height)
+    out.u16_if(extended, "sar_width", 16, v.sar_width)?;
+    out.u16_if(extended, "sar_height", 16, v.sar_height)
 }
 
 #[tactic(auto, unfolding(crate::specs::Vui::overscan))]
-pub(crate) fn overscan_of(bits: &mut BitReader) -> Result<Overscan, FieldFault>
-    ensures { Fills (λ v. v) means bits.old bits.new result (read overscan bits.old.left) }
+pub(crate) fn overscan_of(bits: &mut BitReader) -> Result<Overscan, Fault<Limit>>
+    ensures { ReadsShared overscan bits.old bits.new result }
 {
     let overscan_info_present_flag = u8_of(bits, 1)?;
     let overscan_appropriate_flag = u8_if(bits, overscan_info_present_flag == 1, 1)?;
@@ -116,22 +116,21 @@ pub(crate) fn overscan_of(bits: &mut BitReader) -> Result<Overscan, FieldFault>
 }
 
 #[tactic(auto, unfolding(crate::specs::Vui::overscan))]
-pub(crate) fn put_overscan(out: &mut BitWriter, v: &Overscan) -> Result<(), AllocError>
+pub(crate) fn print_overscan(out: &mut Printer, v: &Overscan) -> Result<(), AllocError>
     requires { Valid overscan v.now }
-    ensures { OnOk result (out.new ≡ put overscan v.now out.old) }
+    ensures { OnOk result (out.new ≡ printed overscan v.now out.old) }
 {
-    put_u8(out, 1, v.overscan_info_present_flag)?;
-    put_u8_if(
-        out,
+    out.flag("overscan_info_present_flag", v.overscan_info_present_flag)?;
+    out.flag_if(
         v.overscan_info_present_flag == 1,
-        1,
+        "overscan_appropriate_flag",
         v.overscan_appropriate_flag,
     )
 }
 
 #[tactic(auto, unfolding(crate::specs::Vui::video_signal_type))]
-pub(crate) fn video_signal_type_of(bits: &mut BitReader) -> Result<VideoSignalType, FieldFault>
-    ensures { Fills (λ v. v) means bits.old bits.new result (read video_signal_type bits.old.left) }
+pub(crate) fn video_signal_type_of(bits: &mut BitReader) -> Result<VideoSignalType, Fault<Limit>>
+    ensures { ReadsShared video_signal_type bits.old bits.new result }
 {
     let video_signal_type_present_flag = u8_of(bits, 1)?;
     let present = video_signal_type_present_flag == 1;
@@ -151,27 +150,39 @@ pub(crate) fn video_signal_type_of(bits: &mut BitReader) -> Result<VideoSignalTy
 }
 
 #[tactic(auto, unfolding(crate::specs::Vui::video_signal_type))]
-pub(crate) fn put_video_signal_type(
-    out: &mut BitWriter,
+pub(crate) fn print_video_signal_type(
+    out: &mut Printer,
     v: &VideoSignalType,
 ) -> Result<(), AllocError>
     requires { Valid video_signal_type v.now }
-    ensures { OnOk result (out.new ≡ put video_signal_type v.now out.old) }
+    ensures { OnOk result (out.new ≡ printed video_signal_type v.now out.old) }
 {
     let present = v.video_signal_type_present_flag == 1;
     let described = coded_set(v.colour_description_present_flag);
-    put_u8(out, 1, v.video_signal_type_present_flag)?;
-    put_u8_if(out, present, 3, v.video_format)?;
-    put_u8_if(out, present, 1, v.video_full_range_flag)?;
-    put_u8_if(out, present, 1, v.colour_description_present_flag)?;
-    put_u8_if(out, described, 8, v.colour_primaries)?;
-    put_u8_if(out, described, 8, v.transfer_characteristics)?;
-    put_u8_if(out, described, 8, v.matrix_coeffs)
+    out.flag(
+        "video_signal_type_present_flag",
+        v.video_signal_type_present_flag,
+    )?;
+    out.u8_if(present, "video_format", 3, v.video_format)?;
+    out.flag_if(present, "video_full_range_flag", v.video_full_range_flag)?;
+    out.flag_if(
+        present,
+        "colour_description_present_flag",
+        v.colour_description_present_flag,
+    )?;
+    out.u8_if(described, "colour_primaries", 8, v.colour_primaries)?;
+    out.u8_if(
+        described,
+        "transfer_characteristics",
+        8,
+        v.transfer_characteristics,
+    )?;
+    out.u8_if(described, "matrix_coeffs", 8, v.matrix_coeffs)
 }
 
 #[tactic(auto, unfolding(crate::specs::Vui::chroma_location))]
-pub(crate) fn chroma_location_of(bits: &mut BitReader) -> Result<ChromaLocation, FieldFault>
-    ensures { Fills (λ v. v) means bits.old bits.new result (read chroma_location bits.old.left) }
+pub(crate) fn chroma_location_of(bits: &mut BitReader) -> Result<ChromaLocation, Fault<Limit>>
+    ensures { ReadsShared chroma_location bits.old bits.new result }
 {
     let chroma_loc_info_present_flag = u8_of(bits, 1)?;
     let present = chroma_loc_info_present_flag == 1;
@@ -183,19 +194,30 @@ pub(crate) fn chroma_location_of(bits: &mut BitReader) -> Result<ChromaLocation,
 }
 
 #[tactic(auto, unfolding(crate::specs::Vui::chroma_location))]
-pub(crate) fn put_chroma_location(out: &mut BitWriter, v: &ChromaLocation) -> Result<(), AllocError>
+pub(crate) fn print_chroma_location(out: &mut Printer, v: &ChromaLocation) -> Result<(), AllocError>
     requires { Valid chroma_location v.now }
-    ensures { OnOk result (out.new ≡ put chroma_location v.now out.old) }
+    ensures { OnOk result (out.new ≡ printed chroma_location v.now out.old) }
 {
     let present = v.chroma_loc_info_present_flag == 1;
-    put_u8(out, 1, v.chroma_loc_info_present_flag)?;
-    put_ue_if(out, present, v.chroma_sample_loc_type_top_field)?;
-    put_ue_if(out, present, v.chroma_sample_loc_type_bottom_field)
+    out.flag(
+        "chroma_loc_info_present_flag",
+        v.chroma_loc_info_present_flag,
+    )?;
+    out.ue_if(
+        present,
+        "chroma_sample_loc_type_top_field",
+        v.chroma_sample_loc_type_top_field,
+    )?;
+    out.ue_if(
+        present,
+        "chroma_sample_loc_type_bottom_field",
+        v.chroma_sample_loc_type_bottom_field,
+    )
 }
 
 #[tactic(auto, unfolding(crate::specs::Vui::display_window))]
-pub(crate) fn display_window_of(bits: &mut BitReader) -> Result<DisplayWindow, FieldFault>
-    ensures { Fills (λ v. v) means bits.old bits.new result (read display_window bits.old.left) }
+pub(crate) fn display_window_of(bits: &mut BitReader) -> Result<DisplayWindow, Fault<Limit>>
+    ensures { ReadsShared display_window bits.old bits.new result }
 {
     let default_display_window_flag = u8_of(bits, 1)?;
     let present = default_display_window_flag == 1;
@@ -209,23 +231,39 @@ pub(crate) fn display_window_of(bits: &mut BitReader) -> Result<DisplayWindow, F
 }
 
 #[tactic(auto, unfolding(crate::specs::Vui::display_window))]
-pub(crate) fn put_display_window(out: &mut BitWriter, v: &DisplayWindow) -> Result<(), AllocError>
+pub(crate) fn print_display_window(out: &mut Printer, v: &DisplayWindow) -> Result<(), AllocError>
     requires { Valid display_window v.now }
-    ensures { OnOk result (out.new ≡ put display_window v.now out.old) }
+    ensures { OnOk result (out.new ≡ printed display_window v.now out.old) }
 {
     let present = v.default_display_window_flag == 1;
-    put_u8(out, 1, v.default_display_window_flag)?;
-    put_ue_if(out, present, v.def_disp_win_left_offset)?;
-    put_ue_if(out, present, v.def_disp_win_right_offset)?;
-    put_ue_if(out, present, v.def_disp_win_top_offset)?;
-    put_ue_if(out, present, v.def_disp_win_bottom_offset)
+    out.flag("default_display_window_flag", v.default_display_window_flag)?;
+    out.ue_if(
+        present,
+        "def_disp_win_left_offset",
+        v.def_disp_win_left_offset,
+    )?;
+    out.ue_if(
+        present,
+        "def_disp_win_right_offset",
+        v.def_disp_win_right_offset,
+    )?;
+    out.ue_if(
+        present,
+        "def_disp_win_top_offset",
+        v.def_disp_win_top_offset,
+    )?;
+    out.ue_if(
+        present,
+        "def_disp_win_bottom_offset",
+        v.def_disp_win_bottom_offset,
+    )
 }
 
 #[tactic(auto, unfolding(crate::specs::Vui::bitstream_restriction))]
 pub(crate) fn bitstream_restriction_of(
     bits: &mut BitReader,
-) -> Result<BitstreamRestriction, FieldFault>
-    ensures { Fills (λ v. v) means bits.old bits.new result (read bitstream_restriction bits.old.left) }
+) -> Result<BitstreamRestriction, Fault<Limit>>
+    ensures { ReadsShared bitstream_restriction bits.old bits.new result }
 {
     let bitstream_restriction_flag = u8_of(bits, 1)?;
     let present = bitstream_restriction_flag == 1;
@@ -243,21 +281,53 @@ pub(crate) fn bitstream_restriction_of(
 }
 
 #[tactic(auto, unfolding(crate::specs::Vui::bitstream_restriction))]
-pub(crate) fn put_bitstream_restriction(
-    out: &mut BitWriter,
+pub(crate) fn print_bitstream_restriction(
+    out: &mut Printer,
     v: &BitstreamRestriction,
 ) -> Result<(), AllocError>
     requires { Valid bitstream_restriction v.now }
-    ensures { OnOk result (out.new ≡ put bitstream_restriction v.now out.old) }
+    ensures { OnOk result (out.new ≡ printed bitstream_restriction v.now out.old) }
 {
     let present = v.bitstream_restriction_flag == 1;
-    put_u8(out, 1, v.bitstream_restriction_flag)?;
-    put_u8_if(out, present, 1, v.tiles_fixed_structure_flag)?;
-    put_u8_if(out, present, 1, v.motion_vectors_over_pic_boundaries_flag)?;
-    put_u8_if(out, present, 1, v.restricted_ref_pic_lists_flag)?;
-    put_ue_if(out, present, v.min_spatial_segmentation_idc)?;
-    put_ue_if(out, present, v.max_bytes_per_pic_denom)?;
-    put_ue_if(out, present, v.max_bits_per_min_cu_denom)?;
-    put_ue_if(out, present, v.log2_max_mv_length_horizontal)?;
-    put_ue_if(out, present, v.log2_max_mv_length_vertical)
+    out.flag("bitstream_restriction_flag", v.bitstream_restriction_flag)?;
+    out.flag_if(
+        present,
+        "tiles_fixed_structure_flag",
+        v.tiles_fixed_structure_flag,
+    )?;
+    out.flag_if(
+        present,
+        "motion_vectors_over_pic_boundaries_flag",
+        v.motion_vectors_over_pic_boundaries_flag,
+    )?;
+    out.flag_if(
+        present,
+        "restricted_ref_pic_lists_flag",
+        v.restricted_ref_pic_lists_flag,
+    )?;
+    out.ue_if(
+        present,
+        "min_spatial_segmentation_idc",
+        v.min_spatial_segmentation_idc,
+    )?;
+    out.ue_if(
+        present,
+        "max_bytes_per_pic_denom",
+        v.max_bytes_per_pic_denom,
+    )?;
+    out.ue_if(
+        present,
+        "max_bits_per_min_cu_denom",
+        v.max_bits_per_min_cu_denom,
+    )?;
+    out.ue_if(
+        present,
+        "log2_max_mv_length_horizontal",
+        v.log2_max_mv_length_horizontal,
+    )?;
+    out.ue_if(
+        present,
+        "log2_max_mv_length_vertical",
+        v.log2_max_mv_length_vertical,
+    )
 }

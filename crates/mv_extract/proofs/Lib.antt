@@ -1,7 +1,3 @@
-pub mod Counts
-pub mod Endings
-pub mod Fed
-pub mod Handed
+pub mod Ended
+pub mod Kept
 pub mod Settled
-pub mod Taking
-pub mod UnitSteps

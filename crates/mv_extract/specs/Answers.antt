@@ -1,22 +1,31 @@
 -- The answers of extraction (this project's profile): when each comes, and what it leaves on the sink.
-use Rattle.std.specs.Prelude.{ℕ, ◌≡◌, ◌≤◌, ◌⊎◌, Bool, true, false, nat_lt, List, [], ◌∷◌, ◌++◌, length, take, None, Some, IfSome, Result, Ok, Err, ⊤, if◌then◌else◌}
-use Rattle.mv_io.specs.declared.refusal.Refusal.{Refusal}
+use Rattle.std.specs.Prelude.{ℕ, ◌≡◌, ◌≤◌, Bool, true, false, List, [], ◌∷◌, ◌++◌, length, Option, None, Some, IfSome, Result, Ok, Err, ⊤}
+use Rattle.mv_rules.specs.declared.refusal.Refusal.{Refusal}
+use Rattle.mv_io.specs.Call.{Input, Output, InputRose, OutputRose, Took}
 use Rattle.mv_io.specs.Sink.{Appends, AppendsPrefix}
-use Rattle.mv_defs.specs.Event.{Event, Accepted, Refused as RefusedFor, Shows, event, shown}
+use Rattle.mv_units.specs.Shown.{StartsWith, whole_units}
+use Rattle.mv_units.specs.Units.{NalUnit}
+use Rattle.mv_judging.specs.declared.stop.Stop.{Stop}
+use Rattle.mv_judging.specs.Event.{Due, Accepts as Accepted, Stops, Exceeds, ShowsBy, ShowNothing as ShowNothingBy, due, event as event_by, refused_at}
+use Rattle.mv_judging.specs.Format.{byte_stream}
+use Rattle.mv_judging.specs.Judge.{judged}
 use Rattle.mv_extract.specs.declared.error.ExtractError.{ExtractError}
 use Rattle.mv_extract.specs.declared.error.ExtractError.TheVariants.{Refused, Read, Write, TooLong, Memory}
-use Rattle.mv_extract.specs.Call.{Input, Output, InputRose, OutputRose, Took}
-use Rattle.mv_extract.specs.Text.{text_taken, text_before}
+use Rattle.mv_extract.specs.Text.{heads, text, text_taken, text_before}
+
+-- the event of a byte stream by the heads of its units: the stop that it is refused for, or none
+abbrev pub event : List ℕ → Option Stop
+event s = event_by byte_stream heads s
 
 -- the bytes taken decide an event: where the end was read after them it is theirs, and else every byte
 -- string that begins with them has it
-abbrev pub Decide : List ℕ → Bool → Event → Type 0
+abbrev pub Decide : List ℕ → Bool → Option Stop → Type 0
 Decide taken true e = event taken ≡ e
-Decide taken false e = Shows taken e
+Decide taken false e = ShowsBy byte_stream heads taken e
 
 -- the bytes taken show no event at all
 abbrev pub ShowNothing : List ℕ → Type 0
-ShowNothing taken = (e : Event) → ¬ Shows taken e
+ShowNothing taken = ShowNothingBy byte_stream heads taken
 
 -- the greatest number of bytes that one read asks for, 2^16 (this project's profile)
 abbrev pub largest_piece : ℕ
@@ -37,8 +46,8 @@ pub record Accepts (limit : ℕ) (input : Input) (output : Output) : Type 0 wher
   pub taken : List ℕ
   pub took : Took input taken true
   pub within : length taken ≤ limit
-  pub accepted : event taken ≡ Accepted
-  pub writes : Appends output.old output.new (text_taken true taken)
+  pub accepted : event taken ≡ None
+  pub writes : Appends output.old.taken output.new.taken (text_taken true taken)
 
 -- Refused: the bytes taken decide that the stream is refused, with no read after that, and the sink gained the
 -- kept units before the refused one
@@ -47,9 +56,9 @@ pub record Refuses (limit : ℕ) (input : Input) (output : Output) (refusal : Re
   pub ended : Bool
   pub took : Took input taken ended
   pub within : length taken ≤ limit
-  pub refused : Decide taken ended (RefusedFor refusal)
+  pub refused : Decide taken ended (Some (refused_at refusal))
   pub prompt : Prompt taken ended
-  pub writes : Appends output.old output.new (text_before refusal taken)
+  pub writes : Appends output.old.taken output.new.taken (text_before refusal taken)
 
 -- Read: the source's count of faults rose, the bytes taken show nothing, and the sink gained the kept units
 -- of those that were taken whole
@@ -59,17 +68,20 @@ pub record ReadFails (limit : ℕ) (input : Input) (output : Output) : Type 0 wh
   pub within : length taken ≤ limit
   pub rose : InputRose input
   pub quiet : ShowNothing taken
-  pub writes : Appends output.old output.new (text_taken false taken)
+  pub writes : Appends output.old.taken output.new.taken (text_taken false taken)
 
--- Write: the sink's count of faults rose, and it gained the first bytes of the kept units of those that were
--- taken whole, and not all of them
+-- Write: the sink's count of faults rose, and it gained the first bytes of the kept ones of some units, and not
+-- all of them; these are the first of those that were taken whole, and all were accepted
 pub record WriteFails (limit : ℕ) (input : Input) (output : Output) : Type 0 where
   pub taken : List ℕ
   pub ended : Bool
   pub took : Took input taken ended
   pub within : length taken ≤ limit
   pub rose : OutputRose output
-  pub writes : AppendsPrefix output.old output.new (text_taken ended taken)
+  pub units : List NalUnit
+  pub begin : StartsWith (whole_units ended taken) units
+  pub accepted : judged heads units ≡ None
+  pub writes : AppendsPrefix output.old.taken output.new.taken (text units)
 
 -- TooLong: the source gave `limit` bytes, which show nothing, and another, and the sink gained the kept units
 -- of those that the `limit` bytes hold whole
@@ -79,17 +91,19 @@ pub record TooLongs (limit : ℕ) (input : Input) (output : Output) : Type 0 whe
   pub took : Took input (taken ++ extra ∷ []) false
   pub limit_reached : length taken ≡ limit
   pub quiet : ShowNothing taken
-  pub writes : Appends output.old output.new (text_taken false taken)
+  pub writes : Appends output.old.taken output.new.taken (text_taken false taken)
 
--- Memory: it has no cause that a contract knows; the sink gained the first bytes of the kept units of those
--- that were taken whole, or all of them
+-- Memory: it has no cause that a contract knows; the sink gained the kept ones of some units, the first of those
+-- that were taken whole, all of which were accepted
 pub record MemoryEnds (limit : ℕ) (input : Input) (output : Output) : Type 0 where
   pub taken : List ℕ
   pub ended : Bool
   pub took : Took input taken ended
   pub within : length taken ≤ limit
-  pub count : ℕ
-  pub writes : Appends output.old output.new (take count (text_taken ended taken))
+  pub units : List NalUnit
+  pub begin : StartsWith (whole_units ended taken) units
+  pub accepted : judged heads units ≡ None
+  pub writes : Appends output.old.taken output.new.taken (text units)
 
 -- each answer with its cause and what it leaves
 abbrev pub Answers : ℕ → Input → Output → Result ⊤ ExtractError → Type 0
@@ -100,22 +114,17 @@ Answers limit input output (Err Write) = WriteFails limit input output
 Answers limit input output (Err TooLong) = TooLongs limit input output
 Answers limit input output (Err Memory) = MemoryEnds limit input output
 
--- the answer that an event decides
-abbrev pub answer_by : Event → Result ⊤ ExtractError
-answer_by Accepted = Ok tt
-answer_by (RefusedFor refusal) = Err (Refused refusal)
+-- an answer is the one that the bytes of an input decide, or want of memory: that the stream is accepted, or the
+-- stop that it is refused for, or that there are more bytes than the limit
+abbrev pub IsDue : Due → Result ⊤ ExtractError → Type 0
+IsDue what (Ok _) = what ≡ Accepted
+IsDue what (Err (Refused refusal)) = what ≡ Stops (refused_at refusal)
+IsDue what (Err Read) = ⊥
+IsDue what (Err Write) = ⊥
+IsDue what (Err TooLong) = what ≡ Exceeds
+IsDue what (Err Memory) = ⊤
 
--- the answer that the bytes of an input decide: the refusal that the first `limit` of them show; where they
--- show none, TooLong if there are more of them, and else the answer by their event
-abbrev pub due : ℕ → List ℕ → Result ⊤ ExtractError
-due limit held =
-    elim (shown (take limit held)) [
-      | Some refusal ↦ Err (Refused refusal)
-      | None ↦ if nat_lt limit (length held) then Err TooLong else answer_by (event held)
-    ]
-
--- where no count of faults rose and the source tells its bytes, the answer is the one that they decide, or Memory
+-- where no count of faults rose and the source tells its bytes, they decide the answer
 abbrev pub Settles : ℕ → Input → Output → Result ⊤ ExtractError → Type 0
 Settles limit input output answer =
-    ¬ InputRose input → ¬ OutputRose output →
-    IfSome input.old (λ was. (answer ≡ due limit was.left) ⊎ (answer ≡ Err Memory))
+    ¬ InputRose input → ¬ OutputRose output → IfSome input.old.told (λ was. IsDue (due byte_stream heads limit was.left) answer)

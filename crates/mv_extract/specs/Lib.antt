@@ -1,5 +1,3 @@
 pub mod Answers
-pub mod Call
-pub mod Handling
-pub mod Reading
+pub mod Keeping
 pub mod Text

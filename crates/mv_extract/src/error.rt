@@ -1,4 +1,4 @@
-use mv_io::Refusal;
+use mv_rules::Refusal;
 use thiserror::Error;
 
 /// Why an extraction didn't come to its end.

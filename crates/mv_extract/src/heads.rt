@@ -1,20 +1,17 @@
 //! Extraction by the heads of the units alone.
 #![tactic(auto)]
 
-ghost use Rattle.std.specs.Prelude.{◌≡◌, ◌≤◌, ◌+◌, ◌<◌, ◌^◌, [], length, List, ℕ, Option};
-ghost use Rattle.mv_bytestream.specs.Scan.{StandsFor, nothing_fed};
-ghost use Rattle.mv_extract.specs.Answers.{Answers, Settles, largest_piece};
-ghost use Rattle.mv_extract.specs.Call.{input_of, output_of};
+ghost use Rattle.std.specs.Prelude.{◌≡◌, ◌≤◌};
+ghost use Rattle.mv_io.specs.Call.{input_of, output_of};
+ghost use Rattle.mv_extract.specs.Answers.{Answers, Settles};
 
+use crate::base_layer::BaseLayer;
 use crate::error::ExtractError;
-use crate::reading::{no_more, read_piece};
-use crate::units::handle_end;
 use mv_bytestream::Scanner;
+use mv_engine::{DriveError, drive};
 use mv_io::{Sink, Source};
 use std::alloc::Global;
-
-/// The most bytes that one read asks for.
-const PIECE: usize = 65536;
+use std::marker::PhantomData;
 
 /// Extracts the base layer by the heads of the units alone, as a stream: reads at most `limit` bytes of the
 /// input in pieces of at most 65,536 bytes, tries the rules `Leading`, `Short`, `Emulation`, `Long` and `Head`
@@ -29,9 +26,10 @@ const PIECE: usize = 65536;
 ///
 /// `Refused` where a rule refuses the stream, in the piece whose bytes show it: the kept units before the
 /// refused one were written. `Read` only where the source's count of faults rose in this call: the kept units
-/// that were taken whole were written. `Write` only where the sink's count rose: the first bytes of those were
-/// written. `TooLong` exactly where `limit` bytes were taken, they show no refusal, and the source gave
-/// another: the kept units that they hold whole were written. `Memory` where the allocator refused memory.
+/// that were taken whole were written. `Write` only where the sink's count rose: the first bytes of the kept units
+/// that were taken whole and accepted were written. `TooLong` exactly where `limit` bytes were taken, they show no
+/// refusal, and the source gave another: the kept units that they hold whole were written. `Memory` where the
+/// allocator refused memory.
 pub fn extract_heads<S: Source, K: Sink>(
     alloc: Global,
     source: &mut S,
@@ -41,58 +39,28 @@ pub fn extract_heads<S: Source, K: Sink>(
 ) -> Result<(), ExtractError>
     requires { ols ≡ 0 }
     ensures answers { Answers limit
-        (input_of (S.told source.old) (S.told source.new) (S.faults source.old) (S.faults source.new))
-        (output_of (K.taken sink.old) (K.taken sink.new) (K.faults sink.old) (K.faults sink.new))
+        (input_of (S.state source.old) (S.state source.new))
+        (output_of (K.state sink.old) (K.state sink.new))
         result }
     ensures settles { Settles limit
-        (input_of (S.told source.old) (S.told source.new) (S.faults source.old) (S.faults source.new))
-        (output_of (K.taken sink.old) (K.taken sink.new) (K.faults sink.old) (K.faults sink.new))
+        (input_of (S.state source.old) (S.state source.new))
+        (output_of (K.state sink.old) (K.state sink.new))
         result }
-    ensures source_count { S.faults source.old ≤ S.faults source.new }
-    ensures sink_count { K.faults sink.old ≤ K.faults sink.new }
+    ensures source_count { (S.state source.old).faults ≤ (S.state source.new).faults }
+    ensures sink_count { (K.state sink.old).faults ≤ (K.state sink.new).faults }
 {
     let _ = ols;
-    let mut piece = match vec![in alloc; 0; PIECE] {
-        Ok(piece) => piece,
-        Err(_) => return Err(ExtractError::Memory),
-    };
     let mut scanner = match Scanner::new(alloc) {
         Ok(scanner) => scanner,
         Err(_) => return Err(ExtractError::Memory),
     };
-    extract_pieces(source, limit, piece.as_mut_slice(), &mut scanner, sink)
-}
-
-// Reads the input piece by piece into `piece`, and handles each, up to the end or one byte past the limit.
-fn extract_pieces<S: Source, K: Sink>(
-    source: &mut S,
-    limit: u64,
-    piece: &mut [u8],
-    scanner: &mut Scanner,
-    sink: &mut K,
-) -> Result<(), ExtractError>
-    requires fresh { scanner.old ≡ nothing_fed }
-    requires stands { StandsFor scanner.old [] }
-    requires room { length piece.old ≡ largest_piece }
-    ensures answers { Answers limit
-        (input_of (S.told source.old) (S.told source.new) (S.faults source.old) (S.faults source.new))
-        (output_of (K.taken sink.old) (K.taken sink.new) (K.faults sink.old) (K.faults sink.new))
-        result }
-    ensures source_count { S.faults source.old ≤ S.faults source.new }
-    ensures sink_count { K.faults sink.old ≤ K.faults sink.new }
-{
-    let mut number = 0;
-    let mut room = limit;
-    while room > 0 {
-        let most = room.min(PIECE as u64) as usize;
-        match read_piece(source, &mut piece[..most], scanner, &mut number, sink) {
-            Ok(0) => return handle_end(scanner, &mut number, sink),
-            Ok(count) => room -= count as u64,
-            Err(error) => return Err(error),
-        }
-    }
-    match no_more(source) {
-        Ok(()) => handle_end(scanner, &mut number, sink),
-        Err(error) => Err(error),
+    let mut visitor = BaseLayer { sink: PhantomData };
+    match drive(alloc, source, limit, &mut scanner, &mut visitor, sink) {
+        Ok(()) => Ok(()),
+        Err(DriveError::Stopped(stop)) => Err(ExtractError::Refused(stop.refusal())),
+        Err(DriveError::Read) => Err(ExtractError::Read),
+        Err(DriveError::TooLong) => Err(ExtractError::TooLong),
+        Err(DriveError::Memory) => Err(ExtractError::Memory),
+        Err(DriveError::Fault(_)) => Err(ExtractError::Write),
     }
 }

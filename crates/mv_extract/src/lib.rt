@@ -2,10 +2,9 @@
 //! bytes unchanged.
 #![tactic(auto)]
 
+mod base_layer;
 mod error;
 mod heads;
-mod reading;
-mod units;
 
 pub use error::ExtractError;
 pub use heads::extract_heads;

@@ -1,3 +1,5 @@
-pub mod Shared
+pub mod Appending
 pub mod Payloads
-mod WidthLaws
+pub mod Shared
+pub mod Signed
+pub mod WidthLaws

@@ -1,11 +1,12 @@
 -- The widths of fields that number the things of a list.
-use Rattle.std.specs.Prelude.{ℕ, zero, suc, ◌^◌, nat_le, if◌then◌else◌}
+use Rattle.std.specs.Prelude.{◌≡◌, ℕ, ◌^◌, ◌≤◌, nat_le}
+use Rattle.mv_fields.specs.inner.Search.{first_from}
 
--- The first k from here on with 2 ^ k at least x, among so many.
-abbrev pub clog2_from : ℕ → ℕ → ℕ → ℕ
-clog2_from zero k x = k
-clog2_from (suc more) k x = if nat_le x (2 ^ k) then k else clog2_from more (suc k) x
-
--- The least k with 2 ^ k at least x, for x up to 2 ^ 32: Ceil(Log2(x)) (5.8).
+-- Ceil(Log2(x)) (5.8), for x up to 2 ^ 32: the least k with 2 ^ k at least x.
 unfoldable pub clog2 : ℕ → ℕ
-clog2 x = clog2_from 32 0 x
+clog2 x = first_from 32 0 (λ k. nat_le x (2 ^ k))
+
+-- k is the least number with 2 ^ k at least x.
+pub record IsClog2 (x k : ℕ) : Type 0 where
+  pub enough : x ≤ 2 ^ k
+  pub least : (j : ℕ) → x ≤ 2 ^ j → k ≤ j

@@ -1,24 +1,32 @@
-//! What the readers and writers of headers share: single fields under a rule of refusal, structures of several headers
-//! under the header's limit rule, and the end of a payload.
+//! What the readers and printers of headers share: single fields and loops of them, limits under a rule of refusal, faults,
+//! the end of a payload, and the printer of bits and lines.
 #![tactic(auto)]
 
 mod ending;
 mod fault;
+mod fields;
+mod fields_printed;
 mod flags;
 mod limits;
-mod signed;
-mod structures;
+mod limits_printed;
+mod loops;
+mod loops_printed;
+mod printer;
+mod put;
+mod shown;
 mod widths;
 
 pub use ending::{MAX_BYTES, payload_end_of};
-pub use fault::HeaderFault;
-pub use flags::{put_unset_flag_if, unset_flag, unset_flag_if};
+pub use fault::{Fault, Limit, under};
+pub use fields::{
+    coded_set, or_zero, se_if, u8_if, u8_of, u16_if, u16_of, u32_if, u32_of, u64_of, ue_if,
+};
+pub use flags::{unset_flag, unset_flag_if};
 pub use limits::{
-    put_ue_within_if, u8_within, u32_within_if, ue_sum_within, ue_within, ue_within_if,
+    u8_below_if, u8_within, u32_within_if, ue_limited, ue_limited_if, ue_sum_within, ue_within,
+    ue_within_if,
 };
-pub use signed::{put_se, put_se_if, se_if};
-pub use structures::{
-    profile_tier_if, profile_tier_of, put_profile_tier, put_profile_tier_if, put_scaling_lists_if,
-    put_vui_if, scaling_lists_if, vui_if,
-};
-pub use widths::clog2;
+pub use loops::{u8s_if, u8s_of, u32s_of, ues_if, ues_of};
+pub use printer::Printer;
+pub use put::{put_u8, put_u8_if, put_u16, put_u32, put_u32_if, put_ue, put_ue_if};
+pub use widths::{clog2, clog2_laws};

@@ -1,7 +1,7 @@
 //! The widths of fields that number the things of a list.
 
-ghost use Rattle.std.specs.Prelude.{◌≡◌, ◌≤◌, ◌^◌};
-ghost use Rattle.mv_fields.specs.Widths.{clog2};
+ghost use Rattle.std.specs.Prelude.{ℕ, ◌≡◌, ◌≤◌, ◌^◌};
+ghost use Rattle.mv_fields.specs.Widths.{clog2, IsClog2};
 
 /// The least k with 2^k at least x, Ceil(Log2(x)) (5.8), which is at most `most`.
 pub fn clog2(x: u32, most: u8) -> u8
@@ -16,3 +16,8 @@ pub fn clog2(x: u32, most: u8) -> u8
     }
     k
 }
+
+/// Ceil(Log2(x)) is the least k with 2^k at least x.
+pub fn clog2_laws()
+    ensures { (x : ℕ) → x ≤ 2 ^ 32 → IsClog2 x (clog2 x) }
+{}

@@ -1,2 +1,4 @@
 pub mod Appends
+mod Handing
 mod Supply
+pub mod Taking

@@ -2,7 +2,7 @@
 use Rattle.std.proofs.Common.{ℕ, Some, ◌≡◌, ◌<◌, ◌≤◌, ◌==◌, ◌||◌, unwrap_or, slice_get, Bool, List, [], ◌++◌, take, drop, length, min, if◌then◌else◌, arith, sym, ◌∙◌, Ok}
 use Rattle.std.proofs.lemmas.List.{take-append-drop, take_at, length-take-le, nil_from_length}
 use Rattle.mv_io.specs.Source.{ReadTells}
-use Rattle.mv_io.specs.MemSource.{Supply, supply_gives, supply_told}
+use Rattle.mv_io.specs.MemSource.{Supply, supply_gives, told_of}
 
 -- a read that has room gives something of what is left
 size-above_zero : (size room : ℕ) → 0 < room → 0 < (if size == 0 then room else min size room)
@@ -18,7 +18,7 @@ gives_nothing s room some none =
 pub supply_tells : {E : Type 0} (old : Supply) (left : List ℕ) (ended : Bool) (before into : List ℕ) (n : ℕ)
     → 0 < length before → n ≡ supply_gives old (length before) → into ≡ take n old.left ++ drop n before
     → left ≡ drop n old.left → ended ≡ (old.ended || (n == 0))
-    → ReadTells {E = E} (supply_told old) (Some (record { left = left; ended = ended })) (Ok n) into
+    → ReadTells {E = E} (told_of old) (Some (record { left = left; ended = ended })) (Ok n) into
 supply_tells old left ended before into n room count filled rest end =
     let within : n ≤ length old.left = omega (arith, count) in
     let front = take_at (take n old.left) (drop n before) n (length-take-le n old.left within) in

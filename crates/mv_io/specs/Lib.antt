@@ -1,9 +1,8 @@
 pub mod Buffer
-pub mod End
+pub mod Buffered
+pub mod Call
 pub mod Faults
 pub mod MemSink
 pub mod MemSource
-pub mod Rule
 pub mod Sink
 pub mod Source
-pub mod StdSink

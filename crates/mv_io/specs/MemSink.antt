@@ -1,5 +1,6 @@
 -- A sink over memory: what it has taken, and which of its writes fail.
-use Rattle.std.specs.Prelude.{ℕ, ◌+◌, ◌<◌, Option, Some, List, length, Contains, ◌⊎◌}
+use Rattle.std.specs.Prelude.{ℕ, ◌+◌, ◌<◌, Some, List, length, Contains, ◌⊎◌}
+use Rattle.mv_io.specs.Sink.{SinkState}
 
 -- a sink over memory, as its callers see it
 pub record Store : Type 0 where
@@ -14,9 +15,9 @@ pub record Store : Type 0 where
   -- how many writes failed
   pub faults : ℕ
 
--- it tells the bytes that it has taken
-abbrev pub store_taken : Store → Option (List ℕ)
-store_taken store = Some store.bytes
+-- it tells the bytes that it has taken, and counts the writes that failed
+abbrev pub store_state : Store → SinkState
+store_state store = record { taken = Some store.bytes; faults = store.faults }
 
 -- the next write fails for a piece of this length: its number is in the list, or there is no room for
 -- the whole piece

@@ -1,6 +1,6 @@
 -- A source over memory: what it still gives, and which of its reads give how much or fail.
 use Rattle.std.specs.Prelude.{ℕ, Bool, Option, Some, List, length, min, slice_get, unwrap_or, ◌==◌, if◌then◌else◌}
-use Rattle.mv_io.specs.Source.{Told}
+use Rattle.mv_io.specs.Source.{SourceState, Told}
 
 -- a source over memory, as its callers see it
 pub record Supply : Type 0 where
@@ -18,8 +18,12 @@ pub record Supply : Type 0 where
   pub faults : ℕ
 
 -- it tells the bytes that are left and whether the end was read
-abbrev pub supply_told : Supply → Option Told
-supply_told supply = Some (record { left = supply.left; ended = supply.ended })
+abbrev pub told_of : Supply → Option Told
+told_of supply = Some (record { left = supply.left; ended = supply.ended })
+
+-- and counts the reads that failed
+abbrev pub supply_state : Supply → SourceState
+supply_state supply = record { told = told_of supply; faults = supply.faults }
 
 -- the most bytes that a read of this number gives into a buffer with that room: what the list of pieces
 -- says, or as many as fit where it says 0 or the number is past it

@@ -1,10 +1,18 @@
 -- What a sink tells of the bytes that it has taken, and what one write to it does.
-use Rattle.std.specs.Prelude.{ℕ, ◌≡◌, ◌<◌, ◌≤◌, Option, Some, List, ◌++◌, take, length, Result, IfOk, OnErr, IfSome}
+use Rattle.std.specs.Prelude.{ℕ, ◌≡◌, ◌<◌, ◌≤◌, Option, None, Some, List, ◌++◌, take, length, Result, IfOk, OnErr}
+
+-- what a sink shows of itself
+pub record SinkState : Type 0 where
+  -- the bytes that it has taken, where it knows them
+  pub taken : Option (List ℕ)
+  -- how often it failed
+  pub faults : ℕ
 
 -- the sink took these bytes in the call and no others: they stand behind those that it had
--- (nothing is said of a sink that doesn't tell its bytes)
+-- (one that doesn't tell its bytes doesn't tell them afterwards)
 abbrev pub Appends : Option (List ℕ) → Option (List ℕ) → List ℕ → Type 0
-Appends old new bytes = IfSome old (λ had. new ≡ Some (had ++ bytes))
+Appends None new bytes = new ≡ None
+Appends (Some had) new bytes = new ≡ Some (had ++ bytes)
 
 -- the sink took the first few of these bytes, and not all of them
 pub record AppendsPrefix (old new : Option (List ℕ)) (bytes : List ℕ) : Type 0 where

@@ -8,6 +8,13 @@ pub record Told : Type 0 where
   -- whether a read has answered 0, which is the end
   pub ended : Bool
 
+-- what a source shows of itself
+pub record SourceState : Type 0 where
+  -- the bytes that are left and whether the end was read, where the source knows them
+  pub told : Option Told
+  -- how often it failed
+  pub faults : ℕ
+
 -- the source gave these bytes in the call and no others: they stood before those that are left now,
 -- and a source that tells its bytes tells them afterwards too (nothing is said of one that doesn't)
 abbrev pub Takes : Option Told → Option Told → List ℕ → Type 0
@@ -16,6 +23,10 @@ Takes old new bytes = IfSome old (λ was. IsSomeAnd new (λ is. was.left ≡ byt
 -- the end was read in the call: the source told that no byte is left, and now tells that its end was read
 abbrev pub Ends : Option Told → Option Told → Type 0
 Ends old new = IfSome old (λ was. IsSomeAnd new (λ is. (was.left ≡ []) × (is.ended ≡ true)))
+
+-- the end was read by now: no byte is left, and the source tells that its end was read
+abbrev pub AtEnd : Option Told → Option Told → Type 0
+AtEnd old new = IfSome old (λ was. IsSomeAnd new (λ is. (is.left ≡ []) × (is.ended ≡ true)))
 
 -- whether the end was read is as it was
 abbrev pub SameEnd : Option Told → Option Told → Type 0

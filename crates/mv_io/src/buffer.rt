@@ -5,7 +5,7 @@ use std::marker::Model;
 // How many bytes a buffer holds.
 pub const BUFFER_LEN: usize = 65536;
 
-// Bytes that wait for the standard output, which are `bytes[start..end]`. The buffer is a part of the end
+// Bytes that wait, which are `bytes[start..end]`. The buffer is a part of the end
 // that has it, so it takes no memory.
 #[derive(Drop)]
 pub struct Buffer {

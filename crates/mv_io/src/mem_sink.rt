@@ -1,6 +1,6 @@
 ghost use Rattle.std.specs.Prelude.{ℕ, ◌≡◌, ◌+◌, ◌<◌, ◌↔◌, [], ◌++◌, List, Option, length, IsErr, IfOk, OnOk, OnErr};
 ghost use Rattle.mv_io.specs.Faults.{HasCause, raised};
-ghost use Rattle.mv_io.specs.MemSink.{Refuses, store_taken};
+ghost use Rattle.mv_io.specs.MemSink.{Refuses, store_state};
 ghost use Rattle.mv_io.specs.Sink.{WritesSome, WriteAppends};
 
 use crate::sink::{Sink, SinkFailed};
@@ -71,14 +71,12 @@ impl MemSink {
 }
 
 impl Sink for MemSink {
-    ghost taken = { store_taken };
-
-    ghost faults = { λ sink. sink.faults };
+    ghost state = { store_state };
 
     fn write(&mut self, piece: &[u8]) -> Result<usize, SinkFailed>
         requires { 0 < length piece.now }
         ensures bound { WritesSome result piece.now }
-        ensures appends { WriteAppends (store_taken self.old) (store_taken self.new) result piece.now }
+        ensures appends { WriteAppends (Some self.old.bytes) (Some self.new.bytes) result piece.now }
         ensures cause { HasCause self.old.faults self.new.faults result }
 
         // Which write fails, and what it leaves.

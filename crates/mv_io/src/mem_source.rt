@@ -1,6 +1,6 @@
 ghost use Rattle.std.specs.Prelude.{ℕ, ◌≡◌, ◌+◌, ◌<◌, ◌↔◌, ◌||◌, ◌==◌, List, Option, false, ◌++◌, take, drop, length, Contains, IsErr, IfOk, OnErr};
 ghost use Rattle.mv_io.specs.Faults.{HasCause, raised};
-ghost use Rattle.mv_io.specs.MemSource.{piece_size, supply_gives, supply_told};
+ghost use Rattle.mv_io.specs.MemSource.{piece_size, supply_gives, supply_state, told_of};
 ghost use Rattle.mv_io.specs.Source.{ReadsAtMost, ReadTells};
 
 use crate::source::{Source, SourceFailed};
@@ -75,14 +75,12 @@ impl MemSource {
 }
 
 impl Source for MemSource {
-    ghost told = { supply_told };
-
-    ghost faults = { λ source. source.faults };
+    ghost state = { supply_state };
 
     fn read(&mut self, into: &mut [u8]) -> Result<usize, SourceFailed>
         requires { 0 < length into.old }
         ensures bound { ReadsAtMost result into.new }
-        ensures tells { ReadTells (supply_told self.old) (supply_told self.new) result into.new }
+        ensures tells { ReadTells (told_of self.old) (told_of self.new) result into.new }
         ensures cause { HasCause self.old.faults self.new.faults result }
 
         // Which read fails, and what it leaves.

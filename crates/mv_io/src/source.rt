@@ -1,5 +1,5 @@
-ghost use Rattle.std.specs.Prelude.{ℕ, ◌<◌, Option, length};
-ghost use Rattle.mv_io.specs.Source.{Told, ReadsAtMost, ReadTells};
+ghost use Rattle.std.specs.Prelude.{◌<◌, length};
+ghost use Rattle.mv_io.specs.Source.{SourceState, ReadsAtMost, ReadTells};
 ghost use Rattle.mv_io.specs.Faults.{HasCause};
 
 /// A read failed, by a fault of the source itself. It took no byte.
@@ -8,11 +8,9 @@ pub struct SourceFailed;
 
 /// Gives bytes, one piece after another.
 pub trait Source {
-    // The bytes that are left and whether the end was read, where the source knows them.
-    ghost told: { Self → Option Told };
-
-    // How often the source failed. The count never falls.
-    ghost faults: { Self → ℕ };
+    // The bytes that are left and whether the end was read, where the source knows them, and how often
+    // it failed: a count that never falls.
+    ghost state: { Self → SourceState };
 
     /// Fills the front of `into`, which isn't empty, with the next bytes, and says how many they are.
     /// They are then no longer left. The answer 0 is the end: no byte is left.
@@ -23,6 +21,6 @@ pub trait Source {
     fn read(&mut self, into: &mut [u8]) -> Result<usize, SourceFailed>
         requires { 0 < length into.old }
         ensures bound { ReadsAtMost result into.new }
-        ensures tells { ReadTells (told self.old) (told self.new) result into.new }
-        ensures cause { HasCause (faults self.old) (faults self.new) result };
+        ensures tells { ReadTells (state self.old).told (state self.new).told result into.new }
+        ensures cause { HasCause (state self.old).faults (state self.new).faults result };
 }

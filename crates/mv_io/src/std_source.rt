@@ -36,9 +36,7 @@ impl<R: Input + Drop> StdSource<R> {
 }
 
 impl<R: Input + Drop> Source for StdSource<R> {
-    ghost told = { λ _. None };
-
-    ghost faults = { λ faults. faults };
+    ghost state = { λ faults. record { told = None; faults = faults } };
 
     fn read(&mut self, into: &mut [u8]) -> Result<usize, SourceFailed> {
         match self.reader.read(into) {

@@ -67,9 +67,7 @@ struct OneByte {
 }
 
 impl Sink for OneByte {
-    ghost taken = { λ _. None };
-
-    ghost faults = { λ sink. sink.faults };
+    ghost state = { λ sink. record { taken = None; faults = sink.faults } };
 
     fn write(&mut self, piece: &[u8]) -> Result<usize, SinkFailed> {
         if self.taken.len() == self.failing || self.taken.push(piece[0]).is_err() {
@@ -95,85 +93,6 @@ fn write_all_goes_on(rt: HostRuntime) -> Result<(), Fail> {
         };
         assert_eq!(rt; write_all(&mut sink, b"abcde"), answer);
         assert_eq!(rt; sink.taken.as_slice(), taken);
-    }
-    Ok(())
-}
-
-// Each rule's number, and what Display writes of it.
-static RULES: [(Rule, u8, &str); 65] = [
-    (Rule::Leading, 1, "Leading"),
-    (Rule::Short, 2, "Short"),
-    (Rule::Emulation, 3, "Emulation"),
-    (Rule::Long, 4, "Long"),
-    (Rule::Head, 5, "Head"),
-    (Rule::VpsSyntax, 10, "VpsSyntax"),
-    (Rule::ExternalBase, 11, "ExternalBase"),
-    (Rule::Splitting, 12, "Splitting"),
-    (Rule::Depth, 13, "Depth"),
-    (Rule::Spatial, 14, "Spatial"),
-    (Rule::Auxiliary, 15, "Auxiliary"),
-    (Rule::ReservedDimension, 16, "ReservedDimension"),
-    (Rule::NoViewDimension, 17, "NoViewDimension"),
-    (Rule::SameView, 18, "SameView"),
-    (Rule::AddedLayerSets, 19, "AddedLayerSets"),
-    (Rule::AltOutput, 20, "AltOutput"),
-    (Rule::LayerSetBase, 21, "LayerSetBase"),
-    (Rule::LayerSetClosure, 22, "LayerSetClosure"),
-    (Rule::LayerSetUnknown, 23, "LayerSetUnknown"),
-    (Rule::ReservedOutput, 24, "ReservedOutput"),
-    (Rule::DependencyType, 25, "DependencyType"),
-    (Rule::VpsLimit, 26, "VpsLimit"),
-    (Rule::VpsChanged, 27, "VpsChanged"),
-    (Rule::VpsTid, 28, "VpsTid"),
-    (Rule::NoVps, 29, "NoVps"),
-    (Rule::SpsSyntax, 30, "SpsSyntax"),
-    (Rule::SpsRange, 31, "SpsRange"),
-    (Rule::Sps3d, 32, "Sps3d"),
-    (Rule::SpsScc, 33, "SpsScc"),
-    (Rule::ColourPlanes, 34, "ColourPlanes"),
-    (Rule::SpsTid, 35, "SpsTid"),
-    (Rule::SpsLimit, 36, "SpsLimit"),
-    (Rule::PpsSyntax, 40, "PpsSyntax"),
-    (Rule::PpsRange, 41, "PpsRange"),
-    (Rule::Pps3d, 42, "Pps3d"),
-    (Rule::PpsScc, 43, "PpsScc"),
-    (Rule::PocReset, 44, "PocReset"),
-    (Rule::LocationOffsets, 45, "LocationOffsets"),
-    (Rule::ColourMapping, 46, "ColourMapping"),
-    (Rule::PpsLimit, 47, "PpsLimit"),
-    (Rule::MissingPps, 50, "MissingPps"),
-    (Rule::MissingSps, 51, "MissingSps"),
-    (Rule::SliceSyntax, 52, "SliceSyntax"),
-    (Rule::CrossLayerBla, 53, "CrossLayerBla"),
-    (Rule::NoBase, 54, "NoBase"),
-    (Rule::LayerOrder, 55, "LayerOrder"),
-    (Rule::OrphanSlice, 56, "OrphanSlice"),
-    (Rule::SliceDiffers, 57, "SliceDiffers"),
-    (Rule::AddressOrder, 58, "AddressOrder"),
-    (Rule::TidDiffers, 59, "TidDiffers"),
-    (Rule::NoIrap, 60, "NoIrap"),
-    (Rule::SpsChanged, 61, "SpsChanged"),
-    (Rule::FormatDiffers, 62, "FormatDiffers"),
-    (Rule::PocRange, 63, "PocRange"),
-    (Rule::PocMismatch, 64, "PocMismatch"),
-    (Rule::IrapRefers, 65, "IrapRefers"),
-    (Rule::TooManyRefs, 66, "TooManyRefs"),
-    (Rule::MissingRef, 67, "MissingRef"),
-    (Rule::MissingInterLayer, 68, "MissingInterLayer"),
-    (Rule::ListEntry, 69, "ListEntry"),
-    (Rule::NoRefs, 70, "NoRefs"),
-    (Rule::Collocated, 71, "Collocated"),
-    (Rule::Reorder(1), 72, "Reorder(1)"),
-    (Rule::Reorder(65535), 72, "Reorder(65535)"),
-    (Rule::NoPicture, 73, "NoPicture"),
-];
-
-#[test]
-fn rules_by_number_and_name(rt: HostRuntime) -> Result<(), Fail> {
-    for (rule, number, text) in &RULES {
-        assert_eq!(rt; rule.number(), *number);
-        assert_eq!(rt; rule.to_string(rt.alloc())?.as_str(), *text);
-        assert!(rt; text.starts_with(rule.name()));
     }
     Ok(())
 }
@@ -232,7 +151,7 @@ fn length_of(system: &Narrow) -> usize {
 // What is taken waits, a long piece goes past the buffer, a failed flush leaves the rest, and the drop of
 // the end hands it on.
 #[test]
-fn standard_output_loses_nothing(rt: HostRuntime) -> Result<(), Fail> {
+fn a_buffer_loses_nothing(rt: HostRuntime) -> Result<(), Fail> {
     let system = Narrow {
         taken: RefCell::new(Vec::new(rt.alloc())),
         most: 40_000,
@@ -240,13 +159,12 @@ fn standard_output_loses_nothing(rt: HostRuntime) -> Result<(), Fail> {
     };
     let long = vec![in rt.alloc(); b'f'; 70_000]?;
     {
-        let mut sink = StdSink::output(&system);
+        let mut sink = Buffered::new(StdSink::output(&system));
         assert_eq!(rt; write_all(&mut sink, b"abc"), Ok(()));
         assert_eq!(rt; length_of(&system), 0);
         assert_eq!(rt; sink.flush(), Ok(()));
         assert_eq!(rt; length_of(&system), 3);
-        assert_eq!(rt; write_all(&mut sink, b"de"), Ok(()));
-        assert_eq!(rt; write_all(&mut sink, long.as_slice()), Ok(()));
+        assert_eq!(rt; write_both(&mut sink, b"de", long.as_slice()), Ok(()));
         assert_eq!(rt; length_of(&system), 40_005);
         system.room.set(10_000);
         assert_eq!(rt; sink.flush(), Err(SinkFailed));
@@ -260,14 +178,26 @@ fn standard_output_loses_nothing(rt: HostRuntime) -> Result<(), Fail> {
 }
 
 #[test]
+fn a_buffer_before_memory(rt: HostRuntime) -> Result<(), Fail> {
+    let mut sink = Buffered::new(MemSink::new(rt.alloc(), 5, &[1])?);
+    assert_eq!(rt; write_both(&mut sink, b"ab", b"cd"), Ok(()));
+    assert_eq!(rt; sink.below().bytes(), b"".as_slice());
+    assert_eq!(rt; sink.flush(), Ok(()));
+    assert_eq!(rt; sink.below().bytes(), b"abcd".as_slice());
+    assert_eq!(rt; sink.write(b"e"), Ok(1));
+    assert_eq!(rt; sink.flush(), Err(SinkFailed));
+    assert_eq!(rt; sink.flush(), Ok(()));
+    assert_eq!(rt; sink.below().bytes(), b"abcde".as_slice());
+    Ok(())
+}
+
+#[test]
 fn standard_ends(rt: HostRuntime) {
     let mut source = StdSource::new(rt);
     let mut output = StdSink::output(rt);
     let mut error = StdSink::error(rt);
     assert_eq!(rt; source.read(&mut [0; 4]), Ok(0));
     assert_eq!(rt; output.write(b"output\n"), Ok(7));
-    assert_eq!(rt; output.flush(), Ok(()));
     assert_eq!(rt; error.write(b"error\n"), Ok(6));
     assert_eq!(rt; error.write(b"\xff"), Err(SinkFailed));
-    assert_eq!(rt; error.flush(), Ok(()));
 }

@@ -6,12 +6,12 @@ use Rattle.mv_pps.specs.declared.deblocking.PpsDeblocking.{PpsDeblocking}
 
 unfoldable pub deblocking : Table PpsDeblocking
 deblocking = shaped
-    (λ c. record {
-      deblocking_filter_control_present_flag = c.0;
-      deblocking_filter_override_enabled_flag = c.1.0;
-      pps_deblocking_filter_disabled_flag = c.1.1.0;
-      pps_beta_offset_div2 = c.1.1.1.0;
-      pps_tc_offset_div2 = c.1.1.1.1;
+    (λ (deblocking_filter_control_present_flag, (deblocking_filter_override_enabled_flag, (pps_deblocking_filter_disabled_flag, (pps_beta_offset_div2, pps_tc_offset_div2)))). record {
+      deblocking_filter_control_present_flag = deblocking_filter_control_present_flag;
+      deblocking_filter_override_enabled_flag = deblocking_filter_override_enabled_flag;
+      pps_deblocking_filter_disabled_flag = pps_deblocking_filter_disabled_flag;
+      pps_beta_offset_div2 = pps_beta_offset_div2;
+      pps_tc_offset_div2 = pps_tc_offset_div2;
     })
     (λ v.
     v.deblocking_filter_control_present_flag

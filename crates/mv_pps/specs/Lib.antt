@@ -1,4 +1,4 @@
-pub mod Head
+pub mod Opening
 pub mod Quantization
 pub mod Tools
 pub mod Tiles

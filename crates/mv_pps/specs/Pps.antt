@@ -1,16 +1,17 @@
 -- pic_parameter_set_rbsp (7.3.2.3.1, F.7.3.2.3.1), part by part: each part is a run of its lines.
 use Rattle.std.specs.Prelude.{ℕ, Bool, false, List, Option, Some, None, refl}
-use Rattle.mv_syntax.specs.Table.{Table, ◌>>=◌, u, ue, named, when, by_rule, shaped}
-use Rattle.mv_syntax.specs.Words.{◌▸◌, ◌>>◌, over, is_set}
+use Rattle.mv_syntax.specs.Table.{Table, ◌>>=◌, u, ue, named, when, shaped}
+use Rattle.mv_syntax.specs.Words.{◌under◌, ◌▸◌, ◌⊗◌, ◌>>◌, over, is_set}
 use Rattle.mv_syntax.specs.Payload.{Payload}
+use Rattle.mv_rules.specs.declared.rule.Rule.TheVariants.{PpsLimit}
 use Rattle.mv_common.specs.ScalingListValue.{ScalingListValue}
 use Rattle.mv_common.specs.ScalingLists.{scaling_list_data}
-use Rattle.mv_pps.specs.declared.head.PpsHead.{PpsHead}
+use Rattle.mv_pps.specs.declared.opening.PpsOpening.{PpsOpening}
 use Rattle.mv_pps.specs.declared.quantization.PpsQuantization.{PpsQuantization}
 use Rattle.mv_pps.specs.declared.tools.PpsTools.{PpsTools}
 use Rattle.mv_pps.specs.declared.deblocking.PpsDeblocking.{PpsDeblocking}
 use Rattle.mv_pps.specs.declared.extension.PpsExtension.{PpsExtension}
-use Rattle.mv_pps.specs.Head.{head}
+use Rattle.mv_pps.specs.Opening.{opening}
 use Rattle.mv_pps.specs.Quantization.{quantization}
 use Rattle.mv_pps.specs.Tools.{tools}
 use Rattle.mv_pps.specs.Tiles.{PpsTilesValue, tiles}
@@ -19,7 +20,7 @@ use Rattle.mv_pps.specs.Extension.{extension}
 
 -- The fields in coded order, in parts; a part that is not coded is None.
 pub record PpsValue : Type 0 where
-  pub head : PpsHead
+  pub opening : PpsOpening
   pub quantization : PpsQuantization
   pub tools : PpsTools
   pub tiles : Option PpsTilesValue
@@ -33,26 +34,41 @@ pub record PpsValue : Type 0 where
   pub pps_extension_present_flag : ℕ
   pub extension : Option PpsExtension
 
--- The fields up to the tail.
-unfoldable pub pps_fields : Table PpsValue
-pps_fields = shaped
-    (λ c. record {
-      head = c.0;
-      quantization = c.1.0;
-      tools = c.1.1.0;
-      tiles = c.1.1.1.0;
-      pps_loop_filter_across_slices_enabled_flag = c.1.1.1.1.0;
-      deblocking = c.1.1.1.1.1.0;
-      pps_scaling_list_data_present_flag = c.1.1.1.1.1.1.0;
-      scaling_list_data = c.1.1.1.1.1.1.1.0;
-      lists_modification_present_flag = c.1.1.1.1.1.1.1.1.0;
-      log2_parallel_merge_level_minus2 = c.1.1.1.1.1.1.1.1.1.0;
-      slice_segment_header_extension_present_flag = c.1.1.1.1.1.1.1.1.1.1.0;
-      pps_extension_present_flag = c.1.1.1.1.1.1.1.1.1.1.1.0;
-      extension = c.1.1.1.1.1.1.1.1.1.1.1.1;
-    })
-    (λ v.
-    v.head
+-- The parts behind the opening, in coded order.
+abbrev pub BehindOpening : Type 0
+BehindOpening =
+    PpsQuantization
+    ⊗ PpsTools
+    ⊗ Option PpsTilesValue
+    ⊗ ℕ
+    ⊗ PpsDeblocking
+    ⊗ ℕ
+    ⊗ Option (List (List ScalingListValue))
+    ⊗ ℕ
+    ⊗ ℕ
+    ⊗ ℕ
+    ⊗ ℕ
+    ⊗ Option PpsExtension
+
+unfoldable pub behind_opening : Table BehindOpening
+behind_opening = do
+  quantization
+  coding_tools ← tools
+  when (is_set coding_tools.tiles_enabled_flag) tiles
+  named "pps_loop_filter_across_slices_enabled_flag" (u 1)
+  deblocking
+  pps_scaling_list_data_present_flag ← named "pps_scaling_list_data_present_flag" (u 1)
+  when (is_set pps_scaling_list_data_present_flag) (scaling_list_data under PpsLimit)
+  named "lists_modification_present_flag" (u 1)
+  named "log2_parallel_merge_level_minus2" ue
+  named "slice_segment_header_extension_present_flag" (u 1)
+  pps_extension_present_flag ← named "pps_extension_present_flag" (u 1)
+  when (is_set pps_extension_present_flag) extension
+
+-- A value's opening, and its parts behind that.
+abbrev pub in_parts : PpsValue → PpsOpening × BehindOpening
+in_parts v =
+    v.opening
     ▸ v.quantization
     ▸ v.tools
     ▸ v.tiles
@@ -64,33 +80,38 @@ pps_fields = shaped
     ▸ v.log2_parallel_merge_level_minus2
     ▸ v.slice_segment_header_extension_present_flag
     ▸ v.pps_extension_present_flag
-    ▸ v.extension)
+    ▸ v.extension
+
+-- The fields up to the tail.
+unfoldable pub pps_fields : Table PpsValue
+pps_fields = shaped
+    (λ (opening, (quantization, (tools, (tiles, (pps_loop_filter_across_slices_enabled_flag, (deblocking, (pps_scaling_list_data_present_flag, (scaling_list_data, (lists_modification_present_flag, (log2_parallel_merge_level_minus2, (slice_segment_header_extension_present_flag, (pps_extension_present_flag, extension)))))))))))). record {
+      opening = opening;
+      quantization = quantization;
+      tools = tools;
+      tiles = tiles;
+      pps_loop_filter_across_slices_enabled_flag = pps_loop_filter_across_slices_enabled_flag;
+      deblocking = deblocking;
+      pps_scaling_list_data_present_flag = pps_scaling_list_data_present_flag;
+      scaling_list_data = scaling_list_data;
+      lists_modification_present_flag = lists_modification_present_flag;
+      log2_parallel_merge_level_minus2 = log2_parallel_merge_level_minus2;
+      slice_segment_header_extension_present_flag = slice_segment_header_extension_present_flag;
+      pps_extension_present_flag = pps_extension_present_flag;
+      extension = extension;
+    })
+    in_parts
     (λ _. refl)
     do
-      head
-      quantization
-      switched ← tools
-      when (is_set switched.tiles_enabled_flag) tiles
-      named "pps_loop_filter_across_slices_enabled_flag" (u 1)
-      deblocking
-      pps_scaling_list_data_present_flag ← named "pps_scaling_list_data_present_flag" (u 1)
-      when (is_set pps_scaling_list_data_present_flag) (by_rule 47 scaling_list_data)
-      named "lists_modification_present_flag" (u 1)
-      named "log2_parallel_merge_level_minus2" ue
-      named "slice_segment_header_extension_present_flag" (u 1)
-      pps_extension_present_flag ← named "pps_extension_present_flag" (u 1)
-      when (is_set pps_extension_present_flag) extension
+      opening
+      behind_opening
 
 -- A tail stands behind the fields where pps_extension_4bits is above 0.
 abbrev pub has_tail : Option PpsExtension → Bool
 has_tail (Some extended) = over 0 extended.pps_extension_4bits
 has_tail None = false
 
--- The payload: at most 65,536 bytes, or else the limit rule, 47 (this project's profile); the fields, the tail
+-- The payload: at most 65,536 bytes, or else the limit rule (this project's profile); the fields, the tail
 -- (pps_extension_data_flag) and the trailing bits.
 abbrev pub pps : Payload PpsValue
-pps = record { fields = pps_fields; size_rule = 47; has_tail = λ v. has_tail v.extension }
-
--- The rule of a payload that is no picture parameter set, PpsSyntax; no field breaks it (this project's profile).
-abbrev pub syntax_rule : ℕ
-syntax_rule = 40
+pps = record { fields = pps_fields; size_rule = PpsLimit; has_tail = λ v. has_tail v.extension }

@@ -6,15 +6,15 @@ use Rattle.mv_pps.specs.declared.quantization.PpsQuantization.{PpsQuantization}
 
 unfoldable pub quantization : Table PpsQuantization
 quantization = shaped
-    (λ c. record {
-      init_qp_minus26 = c.0;
-      constrained_intra_pred_flag = c.1.0;
-      transform_skip_enabled_flag = c.1.1.0;
-      cu_qp_delta_enabled_flag = c.1.1.1.0;
-      diff_cu_qp_delta_depth = c.1.1.1.1.0;
-      pps_cb_qp_offset = c.1.1.1.1.1.0;
-      pps_cr_qp_offset = c.1.1.1.1.1.1.0;
-      pps_slice_chroma_qp_offsets_present_flag = c.1.1.1.1.1.1.1;
+    (λ (init_qp_minus26, (constrained_intra_pred_flag, (transform_skip_enabled_flag, (cu_qp_delta_enabled_flag, (diff_cu_qp_delta_depth, (pps_cb_qp_offset, (pps_cr_qp_offset, pps_slice_chroma_qp_offsets_present_flag))))))). record {
+      init_qp_minus26 = init_qp_minus26;
+      constrained_intra_pred_flag = constrained_intra_pred_flag;
+      transform_skip_enabled_flag = transform_skip_enabled_flag;
+      cu_qp_delta_enabled_flag = cu_qp_delta_enabled_flag;
+      diff_cu_qp_delta_depth = diff_cu_qp_delta_depth;
+      pps_cb_qp_offset = pps_cb_qp_offset;
+      pps_cr_qp_offset = pps_cr_qp_offset;
+      pps_slice_chroma_qp_offsets_present_flag = pps_slice_chroma_qp_offsets_present_flag;
     })
     (λ v.
     v.init_qp_minus26

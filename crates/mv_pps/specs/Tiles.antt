@@ -1,9 +1,10 @@
 -- The tiles of a picture parameter set (7.3.2.3.1), coded where tiles_enabled_flag is 1. Over 256 columns or rows break the
--- limit rule, 47 (this project's profile).
+-- limit rule (this project's profile).
 use Rattle.std.specs.Prelude.{ℕ, not, List, Option, refl}
 use Rattle.mv_syntax.specs.Table.{Table, ◌>>=◌, u, ue, named, when, shaped}
 use Rattle.mv_syntax.specs.Words.{◌▸◌, ◌>>◌, ◌!◌∶◌, over, is_set}
-use Rattle.mv_syntax.specs.Loops.{items}
+use Rattle.mv_syntax.specs.Loops.{ues}
+use Rattle.mv_rules.specs.declared.rule.Rule.TheVariants.{PpsLimit}
 
 -- The fields in coded order; a loop that is not coded is None.
 pub record PpsTilesValue : Type 0 where
@@ -14,23 +15,15 @@ pub record PpsTilesValue : Type 0 where
   pub row_height_minus1 : Option (List ℕ)
   pub loop_filter_across_tiles_enabled_flag : ℕ
 
--- Turn i of a loop over columns or rows: the size of column or row i, less 1.
-unfoldable pub size : ℕ → Table ℕ
-size i = ue
-
--- for i = 0 to n-1
-unfoldable pub sizes : ℕ → Table (List ℕ)
-sizes n = items 0 n size
-
 unfoldable pub tiles : Table PpsTilesValue
 tiles = shaped
-    (λ c. record {
-      num_tile_columns_minus1 = c.0;
-      num_tile_rows_minus1 = c.1.0;
-      uniform_spacing_flag = c.1.1.0;
-      column_width_minus1 = c.1.1.1.0;
-      row_height_minus1 = c.1.1.1.1.0;
-      loop_filter_across_tiles_enabled_flag = c.1.1.1.1.1;
+    (λ (num_tile_columns_minus1, (num_tile_rows_minus1, (uniform_spacing_flag, (column_width_minus1, (row_height_minus1, loop_filter_across_tiles_enabled_flag))))). record {
+      num_tile_columns_minus1 = num_tile_columns_minus1;
+      num_tile_rows_minus1 = num_tile_rows_minus1;
+      uniform_spacing_flag = uniform_spacing_flag;
+      column_width_minus1 = column_width_minus1;
+      row_height_minus1 = row_height_minus1;
+      loop_filter_across_tiles_enabled_flag = loop_filter_across_tiles_enabled_flag;
     })
     (λ v.
     v.num_tile_columns_minus1
@@ -41,9 +34,9 @@ tiles = shaped
     ▸ v.loop_filter_across_tiles_enabled_flag)
     (λ _. refl)
     do
-      num_tile_columns_minus1 ← named "num_tile_columns_minus1" (ue ! 47 ∶ over 255)
-      num_tile_rows_minus1 ← named "num_tile_rows_minus1" (ue ! 47 ∶ over 255)
+      num_tile_columns_minus1 ← named "num_tile_columns_minus1" (ue ! PpsLimit ∶ over 255)
+      num_tile_rows_minus1 ← named "num_tile_rows_minus1" (ue ! PpsLimit ∶ over 255)
       uniform_spacing_flag ← named "uniform_spacing_flag" (u 1)
-      named "column_width_minus1" (when (not (is_set uniform_spacing_flag)) (sizes num_tile_columns_minus1))
-      named "row_height_minus1" (when (not (is_set uniform_spacing_flag)) (sizes num_tile_rows_minus1))
+      named "column_width_minus1" (when (not (is_set uniform_spacing_flag)) (ues 0 num_tile_columns_minus1))
+      named "row_height_minus1" (when (not (is_set uniform_spacing_flag)) (ues 0 num_tile_rows_minus1))
       named "loop_filter_across_tiles_enabled_flag" (u 1)

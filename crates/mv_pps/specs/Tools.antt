@@ -6,12 +6,12 @@ use Rattle.mv_pps.specs.declared.tools.PpsTools.{PpsTools}
 
 unfoldable pub tools : Table PpsTools
 tools = shaped
-    (λ c. record {
-      weighted_pred_flag = c.0;
-      weighted_bipred_flag = c.1.0;
-      transquant_bypass_enabled_flag = c.1.1.0;
-      tiles_enabled_flag = c.1.1.1.0;
-      entropy_coding_sync_enabled_flag = c.1.1.1.1;
+    (λ (weighted_pred_flag, (weighted_bipred_flag, (transquant_bypass_enabled_flag, (tiles_enabled_flag, entropy_coding_sync_enabled_flag)))). record {
+      weighted_pred_flag = weighted_pred_flag;
+      weighted_bipred_flag = weighted_bipred_flag;
+      transquant_bypass_enabled_flag = transquant_bypass_enabled_flag;
+      tiles_enabled_flag = tiles_enabled_flag;
+      entropy_coding_sync_enabled_flag = entropy_coding_sync_enabled_flag;
     })
     (λ v.
     v.weighted_pred_flag

@@ -1,12 +1,12 @@
 ghost use Rattle.std.specs.Prelude.{◌≡◌, OnOk};
-ghost use Rattle.mv_syntax.specs.Table.{Valid, read, put};
-ghost use Rattle.mv_syntax.specs.Answers.{Fills};
-ghost use Rattle.mv_fields.specs.Faults.{means};
+ghost use Rattle.mv_syntax.specs.Table.{Valid};
+ghost use Rattle.mv_syntax.specs.Printed.{printed};
+ghost use Rattle.mv_fields.specs.Reading.{ReadsBy};
 ghost use Rattle.mv_pps.specs.Deblocking.{deblocking};
 
-use mv_bits::{BitReader, BitWriter};
-use mv_common::{coded_set, put_u8, put_u8_if, u8_if, u8_of};
-use mv_fields::{HeaderFault, put_se_if, se_if};
+use mv_bits::BitReader;
+use mv_fields::{Fault, Printer, coded_set, se_if, u8_if, u8_of};
+use mv_rules::Rule;
 use std::alloc::AllocError;
 
 /// The deblocking filter in a picture parameter set.
@@ -20,8 +20,8 @@ pub struct PpsDeblocking {
 }
 
 #[tactic(auto, unfolding(crate::specs::Deblocking::deblocking))]
-pub(crate) fn deblocking_of(bits: &mut BitReader) -> Result<PpsDeblocking, HeaderFault>
-    ensures { Fills (λ v. v) means bits.old bits.new result (read deblocking bits.old.left) }
+pub(crate) fn deblocking_of(bits: &mut BitReader) -> Result<PpsDeblocking, Fault<Rule>>
+    ensures { ReadsBy deblocking bits.old bits.new result }
 {
     let deblocking_filter_control_present_flag = u8_of(bits, 1)?;
     let control = deblocking_filter_control_present_flag == 1;
@@ -38,15 +38,26 @@ pub(crate) fn deblocking_of(bits: &mut BitReader) -> Result<PpsDeblocking, Heade
 }
 
 #[tactic(auto, unfolding(crate::specs::Deblocking::deblocking))]
-pub(crate) fn put_deblocking(out: &mut BitWriter, v: &PpsDeblocking) -> Result<(), AllocError>
+pub(crate) fn print_deblocking(out: &mut Printer, v: &PpsDeblocking) -> Result<(), AllocError>
     requires { Valid deblocking v.now }
-    ensures { OnOk result (out.new ≡ put deblocking v.now out.old) }
+    ensures { OnOk result (out.new ≡ printed deblocking v.now out.old) }
 {
     let control = v.deblocking_filter_control_present_flag == 1;
     let offsets = control && !coded_set(v.pps_deblocking_filter_disabled_flag);
-    put_u8(out, 1, v.deblocking_filter_control_present_flag)?;
-    put_u8_if(out, control, 1, v.deblocking_filter_override_enabled_flag)?;
-    put_u8_if(out, control, 1, v.pps_deblocking_filter_disabled_flag)?;
-    put_se_if(out, offsets, v.pps_beta_offset_div2)?;
-    put_se_if(out, offsets, v.pps_tc_offset_div2)
+    out.flag(
+        "deblocking_filter_control_present_flag",
+        v.deblocking_filter_control_present_flag,
+    )?;
+    out.flag_if(
+        control,
+        "deblocking_filter_override_enabled_flag",
+        v.deblocking_filter_override_enabled_flag,
+    )?;
+    out.flag_if(
+        control,
+        "pps_deblocking_filter_disabled_flag",
+        v.pps_deblocking_filter_disabled_flag,
+    )?;
+    out.se_if(offsets, "pps_beta_offset_div2", v.pps_beta_offset_div2)?;
+    out.se_if(offsets, "pps_tc_offset_div2", v.pps_tc_offset_div2)
 }

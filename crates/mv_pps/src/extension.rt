@@ -1,14 +1,13 @@
 ghost use Rattle.std.specs.Prelude.{◌≡◌, OnOk};
-ghost use Rattle.mv_syntax.specs.Table.{when, Valid, read, put};
-ghost use Rattle.mv_syntax.specs.Answers.{Fills};
-ghost use Rattle.mv_fields.specs.Faults.{means};
+ghost use Rattle.mv_syntax.specs.Table.{when, Valid};
+ghost use Rattle.mv_syntax.specs.Printed.{printed};
+ghost use Rattle.mv_fields.specs.Reading.{ReadsBy};
 ghost use Rattle.mv_pps.specs.Extension.{extension};
 
-use crate::multilayer::{PpsMultilayer, multilayer_if, put_multilayer_if};
-use mv_bits::{BitReader, BitWriter};
-use mv_common::{put_u8, u8_of};
-use mv_fields::{HeaderFault, unset_flag};
-use mv_io::Rule;
+use crate::multilayer::{PpsMultilayer, multilayer_if, print_multilayer_if};
+use mv_bits::BitReader;
+use mv_fields::{Fault, Printer, u8_of, unset_flag};
+use mv_rules::Rule;
 use std::alloc::AllocError;
 
 /// The extension flags of a picture parameter set, and its multilayer extension.
@@ -23,8 +22,8 @@ pub struct PpsExtension {
 }
 
 #[tactic(auto, unfolding(crate::specs::Extension::extension))]
-fn extension_of(bits: &mut BitReader) -> Result<PpsExtension, HeaderFault>
-    ensures { Fills (λ v. v) means bits.old bits.new result (read extension bits.old.left) }
+fn extension_of(bits: &mut BitReader) -> Result<PpsExtension, Fault<Rule>>
+    ensures { ReadsBy extension bits.old bits.new result }
 {
     let pps_range_extension_flag = unset_flag(bits, Rule::PpsRange)?;
     let pps_multilayer_extension_flag = u8_of(bits, 1)?;
@@ -39,23 +38,26 @@ fn extension_of(bits: &mut BitReader) -> Result<PpsExtension, HeaderFault>
 }
 
 #[tactic(auto, unfolding(crate::specs::Extension::extension))]
-fn put_extension(out: &mut BitWriter, v: &PpsExtension) -> Result<(), AllocError>
+fn print_extension(out: &mut Printer, v: &PpsExtension) -> Result<(), AllocError>
     requires { Valid extension v.now }
-    ensures { OnOk result (out.new ≡ put extension v.now out.old) }
+    ensures { OnOk result (out.new ≡ printed extension v.now out.old) }
 {
-    put_u8(out, 1, v.pps_range_extension_flag)?;
-    put_u8(out, 1, v.pps_multilayer_extension_flag)?;
-    put_u8(out, 1, v.pps_3d_extension_flag)?;
-    put_u8(out, 1, v.pps_scc_extension_flag)?;
-    put_u8(out, 4, v.pps_extension_4bits)?;
-    put_multilayer_if(out, v.pps_multilayer_extension_flag == 1, v.multilayer)
+    out.flag("pps_range_extension_flag", v.pps_range_extension_flag)?;
+    out.flag(
+        "pps_multilayer_extension_flag",
+        v.pps_multilayer_extension_flag,
+    )?;
+    out.flag("pps_3d_extension_flag", v.pps_3d_extension_flag)?;
+    out.flag("pps_scc_extension_flag", v.pps_scc_extension_flag)?;
+    out.u8("pps_extension_4bits", 4, v.pps_extension_4bits)?;
+    print_multilayer_if(out, v.pps_multilayer_extension_flag == 1, v.multilayer)
 }
 
 pub(crate) fn extension_if(
     bits: &mut BitReader,
     present: bool,
-) -> Result<Option<PpsExtension>, HeaderFault>
-    ensures { Fills (λ v. v) means bits.old bits.new result (read (when present extension) bits.old.left) }
+) -> Result<Option<PpsExtension>, Fault<Rule>>
+    ensures { ReadsBy (when present extension) bits.old bits.new result }
 {
     if !present {
         return Ok(None);
@@ -63,16 +65,16 @@ pub(crate) fn extension_if(
     Ok(Some(extension_of(bits)?))
 }
 
-pub(crate) fn put_extension_if(
-    out: &mut BitWriter,
+pub(crate) fn print_extension_if(
+    out: &mut Printer,
     present: bool,
     v: Option<PpsExtension>,
 ) -> Result<(), AllocError>
     requires { Valid (when present extension) v }
-    ensures { OnOk result (out.new ≡ put (when present extension) v out.old) }
+    ensures { OnOk result (out.new ≡ printed (when present extension) v out.old) }
 {
     match v {
-        Some(v) => put_extension(out, &v),
+        Some(v) => print_extension(out, &v),
         None => Ok(()),
     }
 }

@@ -1,13 +1,12 @@
 ghost use Rattle.std.specs.Prelude.{◌≡◌, OnOk};
-ghost use Rattle.mv_syntax.specs.Table.{when, Valid, read, put};
-ghost use Rattle.mv_syntax.specs.Answers.{Fills};
-ghost use Rattle.mv_fields.specs.Faults.{means};
+ghost use Rattle.mv_syntax.specs.Table.{when, Valid};
+ghost use Rattle.mv_syntax.specs.Printed.{printed};
+ghost use Rattle.mv_fields.specs.Reading.{ReadsBy};
 ghost use Rattle.mv_pps.specs.Extension.{multilayer_extension};
 
-use mv_bits::{BitReader, BitWriter};
-use mv_common::{put_u8, put_u8_if, put_ue, u8_if, u8_of};
-use mv_fields::{HeaderFault, ue_within, unset_flag};
-use mv_io::Rule;
+use mv_bits::BitReader;
+use mv_fields::{Fault, Printer, u8_if, u8_of, ue_within, unset_flag};
+use mv_rules::Rule;
 use std::alloc::AllocError;
 
 /// pps_multilayer_extension (F.7.3.2.3.4), with no resetting of picture order counts, no location offsets and no colour mapping.
@@ -21,8 +20,8 @@ pub struct PpsMultilayer {
 }
 
 #[tactic(auto, unfolding(crate::specs::Extension::multilayer_extension))]
-fn multilayer_of(bits: &mut BitReader) -> Result<PpsMultilayer, HeaderFault>
-    ensures { Fills (λ v. v) means bits.old bits.new result (read multilayer_extension bits.old.left) }
+fn multilayer_of(bits: &mut BitReader) -> Result<PpsMultilayer, Fault<Rule>>
+    ensures { ReadsBy multilayer_extension bits.old bits.new result }
 {
     let poc_reset_info_present_flag = unset_flag(bits, Rule::PocReset)?;
     let pps_infer_scaling_list_flag = u8_of(bits, 1)?;
@@ -36,27 +35,27 @@ fn multilayer_of(bits: &mut BitReader) -> Result<PpsMultilayer, HeaderFault>
 }
 
 #[tactic(auto, unfolding(crate::specs::Extension::multilayer_extension))]
-fn put_multilayer(out: &mut BitWriter, v: &PpsMultilayer) -> Result<(), AllocError>
+fn print_multilayer(out: &mut Printer, v: &PpsMultilayer) -> Result<(), AllocError>
     requires { Valid multilayer_extension v.now }
-    ensures { OnOk result (out.new ≡ put multilayer_extension v.now out.old) }
+    ensures { OnOk result (out.new ≡ printed multilayer_extension v.now out.old) }
 {
-    put_u8(out, 1, v.poc_reset_info_present_flag)?;
-    put_u8(out, 1, v.pps_infer_scaling_list_flag)?;
-    put_u8_if(
-        out,
+    out.flag("poc_reset_info_present_flag", v.poc_reset_info_present_flag)?;
+    out.flag("pps_infer_scaling_list_flag", v.pps_infer_scaling_list_flag)?;
+    out.u8_if(
         v.pps_infer_scaling_list_flag == 1,
+        "pps_scaling_list_ref_layer_id",
         6,
         v.pps_scaling_list_ref_layer_id,
     )?;
-    put_ue(out, v.num_ref_loc_offsets)?;
-    put_u8(out, 1, v.colour_mapping_enabled_flag)
+    out.ue("num_ref_loc_offsets", v.num_ref_loc_offsets)?;
+    out.flag("colour_mapping_enabled_flag", v.colour_mapping_enabled_flag)
 }
 
 pub(crate) fn multilayer_if(
     bits: &mut BitReader,
     present: bool,
-) -> Result<Option<PpsMultilayer>, HeaderFault>
-    ensures { Fills (λ v. v) means bits.old bits.new result (read (when present multilayer_extension) bits.old.left) }
+) -> Result<Option<PpsMultilayer>, Fault<Rule>>
+    ensures { ReadsBy (when present multilayer_extension) bits.old bits.new result }
 {
     if !present {
         return Ok(None);
@@ -64,16 +63,16 @@ pub(crate) fn multilayer_if(
     Ok(Some(multilayer_of(bits)?))
 }
 
-pub(crate) fn put_multilayer_if(
-    out: &mut BitWriter,
+pub(crate) fn print_multilayer_if(
+    out: &mut Printer,
     present: bool,
     v: Option<PpsMultilayer>,
 ) -> Result<(), AllocError>
     requires { Valid (when present multilayer_extension) v }
-    ensures { OnOk result (out.new ≡ put (when present multilayer_extension) v out.old) }
+    ensures { OnOk result (out.new ≡ printed (when present multilayer_extension) v out.old) }
 {
     match v {
-        Some(v) => put_multilayer(out, &v),
+        Some(v) => print_multilayer(out, &v),
         None => Ok(()),
     }
 }

@@ -1,18 +1,22 @@
-//! The payload of a picture parameter set: read, and written.
+//! The payload of a picture parameter set: read, written and shown.
 
-ghost use Rattle.std.specs.Prelude.{◌≡◌, IfOk};
+ghost use Rattle.std.specs.Prelude.{◌≡◌, [], ◌++◌, IfOk, OnOk};
 ghost use Rattle.mv_syntax.specs.Bits.{byte_bits};
-ghost use Rattle.mv_syntax.specs.Payload.{ValidPayload, payload_bits, read_payload};
-ghost use Rattle.mv_syntax.specs.Answers.{FillsPayload, AnswersPayloadBy};
-ghost use Rattle.mv_fields.specs.Faults.{means, broken_rule};
-ghost use Rattle.mv_pps.specs.Pps.{pps, syntax_rule, has_tail};
+ghost use Rattle.mv_syntax.specs.Lines.{text_of};
+ghost use Rattle.mv_syntax.specs.Payload.{ValidPayload, ReadsPayload, CutPayload, payload_bits, payload_lines, read_payload};
+ghost use Rattle.mv_syntax.specs.Printed.{lines};
+ghost use Rattle.mv_syntax.specs.Answers.{FillsPayload};
+ghost use Rattle.mv_rules.specs.declared.rule.Rule.TheVariants.{PpsSyntax};
+ghost use Rattle.mv_fields.specs.Faults.{means};
+ghost use Rattle.mv_fields.specs.Output.{IsText, text_in};
+ghost use Rattle.mv_fields.specs.Reading.{ReadsWhole};
+ghost use Rattle.mv_pps.specs.Pps.{pps, has_tail};
 
 use crate::extension::PpsExtension;
-use crate::pps::{Pps, fields_of, put_fields};
-use mv_bits::{BitReader, BitWriter};
-use mv_common::put_payload_end;
-use mv_fields::{HeaderFault, MAX_BYTES, payload_end_of};
-use mv_io::{ReadFault, Rule};
+use crate::pps::{Pps, fields_of, print_fields};
+use mv_bits::BitReader;
+use mv_fields::{Fault, MAX_BYTES, Printer, payload_end_of};
+use mv_rules::{ReadFault, Rule};
 use std::alloc::{AllocError, Global};
 
 // Whether a tail stands behind the fields.
@@ -25,11 +29,11 @@ fn has_tail(extension: Option<PpsExtension>) -> bool
     }
 }
 
-fn payload_of(alloc: Global, payload: &[u8]) -> Result<Pps, HeaderFault>
+fn payload_of(alloc: Global, payload: &[u8]) -> Result<Pps, Fault<Rule>>
     ensures { FillsPayload (λ v. v) means result (read_payload pps (byte_bits payload.now)) }
 {
     if payload.len() > MAX_BYTES {
-        return Err(HeaderFault::Breaks(Rule::PpsLimit));
+        return Err(Fault::Breaks(Rule::PpsLimit));
     }
     let mut bits = BitReader::new(payload);
     let value = match fields_of(alloc, &mut bits) {
@@ -49,7 +53,7 @@ fn payload_of(alloc: Global, payload: &[u8]) -> Result<Pps, HeaderFault>
 /// `ColourMapping` at the field that each names; with `PpsSyntax` where no rule is broken and the bytes are no picture
 /// parameter set. `Memory` where memory runs out.
 pub fn read_pps(alloc: Global, payload: &[u8]) -> Result<Pps, ReadFault>
-    ensures { AnswersPayloadBy (λ v. v) broken_rule syntax_rule pps (byte_bits payload.now) result }
+    ensures { ReadsWhole (ReadsPayload pps (byte_bits payload.now)) (CutPayload pps (byte_bits payload.now)) PpsSyntax result }
 {
     match payload_of(alloc, payload) {
         Ok(value) => Ok(value),
@@ -64,8 +68,22 @@ pub fn write_pps(alloc: Global, value: &Pps) -> Result<Vec<u8>, AllocError>
     requires { ValidPayload pps value.now }
     ensures { IfOk result (λ bytes. byte_bits bytes.items ≡ payload_bits pps value.now) }
 {
-    let mut out = BitWriter::new(alloc);
-    put_fields(&mut out, value)?;
-    put_payload_end(&mut out, &value.tail)?;
+    let mut out = Printer::bits(alloc);
+    print_fields(&mut out, value)?;
+    out.end(&value.tail)?;
     Ok(out.into_bytes())
+}
+
+/// Shows a picture parameter set: appends the line of each coded field, in coded order, and of the tail, where it has one,
+/// its number of bits.
+///
+/// `AllocError` where memory runs out.
+pub fn show_pps(out: &mut Printer, value: &Pps) -> Result<(), AllocError>
+    requires text { IsText out.old }
+    requires valid { ValidPayload pps value.now }
+    ensures { OnOk result (out.new ≡ lines (text_in out.old ++ text_of (payload_lines pps value.now)) []) }
+{
+    print_fields(out, value)?;
+    out.end(&value.tail)?;
+    Ok(())
 }

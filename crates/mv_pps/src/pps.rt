@@ -1,26 +1,27 @@
 ghost use Rattle.std.specs.Prelude.{◌≡◌, OnOk};
-ghost use Rattle.mv_syntax.specs.Table.{Valid, read, put};
-ghost use Rattle.mv_syntax.specs.Answers.{Fills};
-ghost use Rattle.mv_fields.specs.Faults.{means};
+ghost use Rattle.mv_syntax.specs.Table.{Valid};
+ghost use Rattle.mv_syntax.specs.Printed.{printed};
+ghost use Rattle.mv_fields.specs.Reading.{ReadsAs};
 ghost use Rattle.mv_pps.specs.Pps.{pps_fields};
 
-use crate::deblocking::{PpsDeblocking, deblocking_of, put_deblocking};
-use crate::extension::{PpsExtension, extension_if, put_extension_if};
-use crate::head::{PpsHead, head_of, put_head};
-use crate::quantization::{PpsQuantization, put_quantization, quantization_of};
-use crate::tiles::{PpsTiles, put_tiles_if, tiles_if};
-use crate::tools::{PpsTools, put_tools, tools_of};
-use mv_bits::{BitReader, BitWriter};
-use mv_common::{ScalingLists, put_u8, put_ue, u8_of};
-use mv_fields::{HeaderFault, put_scaling_lists_if, scaling_lists_if};
-use mv_io::Rule;
+use crate::deblocking::{PpsDeblocking, deblocking_of, print_deblocking};
+use crate::extension::{PpsExtension, extension_if, print_extension_if};
+use crate::opening::{PpsOpening, opening_of, print_opening};
+use crate::quantization::{PpsQuantization, print_quantization, quantization_of};
+use crate::scaling_lists::{print_scaling_lists_if, scaling_lists_if};
+use crate::tiles::{PpsTiles, print_tiles_if, tiles_if};
+use crate::tools::{PpsTools, print_tools, tools_of};
+use mv_bits::BitReader;
+use mv_common::ScalingLists;
+use mv_fields::{Fault, Printer, u8_of};
+use mv_rules::Rule;
 use std::alloc::{AllocError, Global};
 use std::marker::Model;
 
 /// A picture parameter set (7.3.2.3.1, F.7.3.2.3.1): its fields in coded order, in parts, and a tail.
 #[derive(Debug, Drop)]
 pub struct Pps {
-    pub head: PpsHead,
+    pub opening: PpsOpening,
     pub quantization: PpsQuantization,
     pub tools: PpsTools,
     /// Coded where tiles_enabled_flag is 1.
@@ -47,7 +48,7 @@ impl Model for Pps {
 
     ghost view = { λ p. (
       record {
-        head = p.head;
+        opening = p.opening;
         quantization = p.quantization;
         tools = p.tools;
         tiles = p.tiles;
@@ -66,30 +67,25 @@ impl Model for Pps {
 }
 
 /// The fields of a picture parameter set, up to the tail, which is None here.
-#[tactic(auto, unfolding(crate::specs::Pps::pps_fields))]
-pub(crate) fn fields_of(alloc: Global, bits: &mut BitReader) -> Result<Pps, HeaderFault>
-    ensures { Fills (λ v. v.0) means bits.old bits.new result (read pps_fields bits.old.left) }
+#[tactic(auto, unfolding(crate::specs::Pps::pps_fields, crate::specs::Pps::behind_opening))]
+pub(crate) fn fields_of(alloc: Global, bits: &mut BitReader) -> Result<Pps, Fault<Rule>>
+    ensures { ReadsAs (λ v. v.0) pps_fields bits.old bits.new result }
 {
-    let head = head_of(bits)?;
+    let opening = opening_of(bits)?;
     let quantization = quantization_of(bits)?;
     let tools = tools_of(bits)?;
     let tiles = tiles_if(alloc, bits, tools.tiles_enabled_flag == 1)?;
     let pps_loop_filter_across_slices_enabled_flag = u8_of(bits, 1)?;
     let deblocking = deblocking_of(bits)?;
     let pps_scaling_list_data_present_flag = u8_of(bits, 1)?;
-    let scaling_list_data = scaling_lists_if(
-        alloc,
-        bits,
-        pps_scaling_list_data_present_flag == 1,
-        Rule::PpsLimit,
-    )?;
+    let scaling_list_data = scaling_lists_if(alloc, bits, pps_scaling_list_data_present_flag == 1)?;
     let lists_modification_present_flag = u8_of(bits, 1)?;
     let log2_parallel_merge_level_minus2 = bits.ue()?;
     let slice_segment_header_extension_present_flag = u8_of(bits, 1)?;
     let pps_extension_present_flag = u8_of(bits, 1)?;
     let extension = extension_if(bits, pps_extension_present_flag == 1)?;
     Ok(Pps {
-        head,
+        opening,
         quantization,
         tools,
         tiles,
@@ -106,24 +102,40 @@ pub(crate) fn fields_of(alloc: Global, bits: &mut BitReader) -> Result<Pps, Head
     })
 }
 
-/// Writes the fields of a picture parameter set, up to the tail.
-#[tactic(auto, unfolding(crate::specs::Pps::pps_fields))]
-pub(crate) fn put_fields(out: &mut BitWriter, v: &Pps) -> Result<(), AllocError>
+/// Prints the fields of a picture parameter set, up to the tail.
+#[tactic(auto, unfolding(crate::specs::Pps::pps_fields, crate::specs::Pps::behind_opening))]
+pub(crate) fn print_fields(out: &mut Printer, v: &Pps) -> Result<(), AllocError>
     requires { Valid pps_fields v.now.0 }
-    ensures { OnOk result (out.new ≡ put pps_fields v.now.0 out.old) }
+    ensures { OnOk result (out.new ≡ printed pps_fields v.now.0 out.old) }
 {
-    put_head(out, &v.head)?;
-    put_quantization(out, &v.quantization)?;
-    put_tools(out, &v.tools)?;
-    put_tiles_if(out, v.tools.tiles_enabled_flag == 1, &v.tiles)?;
-    put_u8(out, 1, v.pps_loop_filter_across_slices_enabled_flag)?;
-    put_deblocking(out, &v.deblocking)?;
-    put_u8(out, 1, v.pps_scaling_list_data_present_flag)?;
+    print_opening(out, &v.opening)?;
+    print_quantization(out, &v.quantization)?;
+    print_tools(out, &v.tools)?;
+    print_tiles_if(out, v.tools.tiles_enabled_flag == 1, &v.tiles)?;
+    out.flag(
+        "pps_loop_filter_across_slices_enabled_flag",
+        v.pps_loop_filter_across_slices_enabled_flag,
+    )?;
+    print_deblocking(out, &v.deblocking)?;
+    out.flag(
+        "pps_scaling_list_data_present_flag",
+        v.pps_scaling_list_data_present_flag,
+    )?;
     let listed = v.pps_scaling_list_data_present_flag == 1;
-    put_scaling_lists_if(out, listed, Rule::PpsLimit, &v.scaling_list_data)?;
-    put_u8(out, 1, v.lists_modification_present_flag)?;
-    put_ue(out, v.log2_parallel_merge_level_minus2)?;
-    put_u8(out, 1, v.slice_segment_header_extension_present_flag)?;
-    put_u8(out, 1, v.pps_extension_present_flag)?;
-    put_extension_if(out, v.pps_extension_present_flag == 1, v.extension)
+    print_scaling_lists_if(out, listed, &v.scaling_list_data)?;
+    out.flag(
+        "lists_modification_present_flag",
+        v.lists_modification_present_flag,
+    )?;
+    out.ue(
+        "log2_parallel_merge_level_minus2",
+        v.log2_parallel_merge_level_minus2,
+    )?;
+    out.flag(
+        "slice_segment_header_extension_present_flag",
+        v.slice_segment_header_extension_present_flag,
+    )?;
+    out.flag("pps_extension_present_flag", v.pps_extension_present_flag)?;
+    print_extension_if(out, v.pps_extension_present_flag == 1, v.extension)?;
+    Ok(())
 }

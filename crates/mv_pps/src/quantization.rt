@@ -1,12 +1,12 @@
 ghost use Rattle.std.specs.Prelude.{◌≡◌, OnOk};
-ghost use Rattle.mv_syntax.specs.Table.{Valid, read, put};
-ghost use Rattle.mv_syntax.specs.Answers.{Fills};
-ghost use Rattle.mv_fields.specs.Faults.{means};
+ghost use Rattle.mv_syntax.specs.Table.{Valid};
+ghost use Rattle.mv_syntax.specs.Printed.{printed};
+ghost use Rattle.mv_fields.specs.Reading.{ReadsBy};
 ghost use Rattle.mv_pps.specs.Quantization.{quantization};
 
-use mv_bits::{BitReader, BitWriter};
-use mv_common::{put_u8, put_ue_if, u8_of, ue_if};
-use mv_fields::{HeaderFault, put_se};
+use mv_bits::BitReader;
+use mv_fields::{Fault, Printer, u8_of, ue_if};
+use mv_rules::Rule;
 use std::alloc::AllocError;
 
 /// The fields of a picture parameter set on residuals and their quantization.
@@ -23,8 +23,8 @@ pub struct PpsQuantization {
 }
 
 #[tactic(auto, unfolding(crate::specs::Quantization::quantization))]
-pub(crate) fn quantization_of(bits: &mut BitReader) -> Result<PpsQuantization, HeaderFault>
-    ensures { Fills (λ v. v) means bits.old bits.new result (read quantization bits.old.left) }
+pub(crate) fn quantization_of(bits: &mut BitReader) -> Result<PpsQuantization, Fault<Rule>>
+    ensures { ReadsBy quantization bits.old bits.new result }
 {
     let init_qp_minus26 = bits.se()?;
     let constrained_intra_pred_flag = u8_of(bits, 1)?;
@@ -43,20 +43,24 @@ pub(crate) fn quantization_of(bits: &mut BitReader) -> Result<PpsQuantization, H
 }
 
 #[tactic(auto, unfolding(crate::specs::Quantization::quantization))]
-pub(crate) fn put_quantization(out: &mut BitWriter, v: &PpsQuantization) -> Result<(), AllocError>
+pub(crate) fn print_quantization(out: &mut Printer, v: &PpsQuantization) -> Result<(), AllocError>
     requires { Valid quantization v.now }
-    ensures { OnOk result (out.new ≡ put quantization v.now out.old) }
+    ensures { OnOk result (out.new ≡ printed quantization v.now out.old) }
 {
-    put_se(out, v.init_qp_minus26)?;
-    put_u8(out, 1, v.constrained_intra_pred_flag)?;
-    put_u8(out, 1, v.transform_skip_enabled_flag)?;
-    put_u8(out, 1, v.cu_qp_delta_enabled_flag)?;
-    put_ue_if(
-        out,
+    out.se("init_qp_minus26", v.init_qp_minus26)?;
+    out.flag("constrained_intra_pred_flag", v.constrained_intra_pred_flag)?;
+    out.flag("transform_skip_enabled_flag", v.transform_skip_enabled_flag)?;
+    out.flag("cu_qp_delta_enabled_flag", v.cu_qp_delta_enabled_flag)?;
+    out.ue_if(
         v.cu_qp_delta_enabled_flag == 1,
+        "diff_cu_qp_delta_depth",
         v.diff_cu_qp_delta_depth,
     )?;
-    put_se(out, v.pps_cb_qp_offset)?;
-    put_se(out, v.pps_cr_qp_offset)?;
-    put_u8(out, 1, v.pps_slice_chroma_qp_offsets_present_flag)
+    out.se("pps_cb_qp_offset", v.pps_cb_qp_offset)?;
+    out.se("pps_cr_qp_offset", v.pps_cr_qp_offset)?;
+    out.flag(
+        "pps_slice_chroma_qp_offsets_present_flag",
+        v.pps_slice_chroma_qp_offsets_present_flag,
+    )?;
+    Ok(())
 }

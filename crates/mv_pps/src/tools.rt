@@ -1,12 +1,12 @@
 ghost use Rattle.std.specs.Prelude.{◌≡◌, OnOk};
-ghost use Rattle.mv_syntax.specs.Table.{Valid, read, put};
-ghost use Rattle.mv_syntax.specs.Answers.{Fills};
-ghost use Rattle.mv_fields.specs.Faults.{means};
+ghost use Rattle.mv_syntax.specs.Table.{Valid};
+ghost use Rattle.mv_syntax.specs.Printed.{printed};
+ghost use Rattle.mv_fields.specs.Reading.{ReadsBy};
 ghost use Rattle.mv_pps.specs.Tools.{tools};
 
-use mv_bits::{BitReader, BitWriter};
-use mv_common::{put_u8, u8_of};
-use mv_fields::HeaderFault;
+use mv_bits::BitReader;
+use mv_fields::{Fault, Printer, u8_of};
+use mv_rules::Rule;
 use std::alloc::AllocError;
 
 /// The flags of a picture parameter set that switch coding tools on.
@@ -20,8 +20,8 @@ pub struct PpsTools {
 }
 
 #[tactic(auto, unfolding(crate::specs::Tools::tools))]
-pub(crate) fn tools_of(bits: &mut BitReader) -> Result<PpsTools, HeaderFault>
-    ensures { Fills (λ v. v) means bits.old bits.new result (read tools bits.old.left) }
+pub(crate) fn tools_of(bits: &mut BitReader) -> Result<PpsTools, Fault<Rule>>
+    ensures { ReadsBy tools bits.old bits.new result }
 {
     Ok(PpsTools {
         weighted_pred_flag: u8_of(bits, 1)?,
@@ -33,13 +33,19 @@ pub(crate) fn tools_of(bits: &mut BitReader) -> Result<PpsTools, HeaderFault>
 }
 
 #[tactic(auto, unfolding(crate::specs::Tools::tools))]
-pub(crate) fn put_tools(out: &mut BitWriter, v: &PpsTools) -> Result<(), AllocError>
+pub(crate) fn print_tools(out: &mut Printer, v: &PpsTools) -> Result<(), AllocError>
     requires { Valid tools v.now }
-    ensures { OnOk result (out.new ≡ put tools v.now out.old) }
+    ensures { OnOk result (out.new ≡ printed tools v.now out.old) }
 {
-    put_u8(out, 1, v.weighted_pred_flag)?;
-    put_u8(out, 1, v.weighted_bipred_flag)?;
-    put_u8(out, 1, v.transquant_bypass_enabled_flag)?;
-    put_u8(out, 1, v.tiles_enabled_flag)?;
-    put_u8(out, 1, v.entropy_coding_sync_enabled_flag)
+    out.flag("weighted_pred_flag", v.weighted_pred_flag)?;
+    out.flag("weighted_bipred_flag", v.weighted_bipred_flag)?;
+    out.flag(
+        "transquant_bypass_enabled_flag",
+        v.transquant_bypass_enabled_flag,
+    )?;
+    out.flag("tiles_enabled_flag", v.tiles_enabled_flag)?;
+    out.flag(
+        "entropy_coding_sync_enabled_flag",
+        v.entropy_coding_sync_enabled_flag,
+    )
 }

@@ -8,14 +8,15 @@ use Rattle.std.proofs.lemmas.Bool.{ltb-false}
 use Rattle.mv_syntax.specs.Table.{Valid, ue, when}
 use Rattle.mv_syntax.specs.Words.{◌!◌∶◌, over, is_set, or_zero, coded_set}
 use Rattle.mv_syntax.proofs.LoopLaws.{each-valid, items-length}
-use Rattle.mv_common.specs.ShortSetValue.{ShortSetValue}
-use Rattle.mv_common.specs.declared.delta.Delta.{Delta}
-use Rattle.mv_common.specs.declared.delta.Side.{Side}
-use Rattle.mv_common.specs.declared.delta.Side.TheVariants.{Before, After}
-use Rattle.mv_common.specs.Deltas.{at_distance, steps, direct, predicted, reference, deltas, deltas_of_each}
-use Rattle.mv_common.specs.ShortSet.{st_ref_pic_set, AreShortArgs}
-use Rattle.mv_common.proofs.DeltaLaws.{each-take, length-deltas_of_each, deltas-at}
-use Rattle.mv_common.proofs.SetLaws.{set_facts, fields_valid, deltas-few}
+use Rattle.mv_rules.specs.declared.rule.Rule.TheVariants.{SliceSyntax}
+use Rattle.mv_short_sets.specs.ShortSetValue.{ShortSetValue}
+use Rattle.mv_short_sets.specs.declared.delta.Delta.{Delta}
+use Rattle.mv_short_sets.specs.declared.delta.Side.{Side}
+use Rattle.mv_short_sets.specs.declared.delta.Side.TheVariants.{Before, After}
+use Rattle.mv_short_sets.specs.Deltas.{at_distance, steps, direct, predicted, reference, deltas, deltas_of_each}
+use Rattle.mv_short_sets.specs.ShortSet.{st_ref_pic_set, AreShortArgs}
+use Rattle.mv_short_sets.proofs.DeltaLaws.{each-take, length-deltas_of_each, deltas-at}
+use Rattle.mv_short_sets.proofs.SetLaws.{set_facts, fields_valid, deltas-few}
 use Rattle.mv_slice.specs.Context.{SliceContextValue, Fits}
 use Rattle.mv_slice.specs.LongTerms.{LongTermsValue, entries, long_terms}
 use Rattle.mv_slice.specs.Derived.{num_short_used}
@@ -113,6 +114,6 @@ few_entries ctx v h =
     let all : length v.entries ≡ or_zero v.num_long_term_sps + v.num_long_term_pics = items-length _ 0 _ v.entries h.0.1.1 in
     omega arith
   where
-    within_16 : (c : Bool) (o : Option ℕ) → Valid (when c (ue ! 52 ∶ over 16)) o → or_zero o ≤ 16
+    within_16 : (c : Bool) (o : Option ℕ) → Valid (when c (ue ! SliceSyntax ∶ over 16)) o → or_zero o ≤ 16
     within_16 c None h = omega arith
     within_16 c (Some n) h = ltb-false 16 n h.1.1

@@ -1,8 +1,6 @@
 pub mod Alignment
-pub mod Clog2
 pub mod Counting
+pub mod HeaderSizes
 pub mod Heads
 pub mod Peeking
-pub mod Shared
-pub mod SignedFields
 pub mod Totals

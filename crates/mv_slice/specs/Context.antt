@@ -1,8 +1,8 @@
 -- What slice segment headers take from the parameter sets that are in force.
 use Rattle.std.specs.Prelude.{◌≡◌, ℕ, ◌^◌, ◌≤◌, ◌<◌, Bool, List, length, [], ◌∷◌}
 use Rattle.std.specs.List.{All}
-use Rattle.mv_common.specs.ShortSetValue.{ShortSetValue}
-use Rattle.mv_common.specs.ShortSet.{ValidSets}
+use Rattle.mv_short_sets.specs.ShortSetValue.{ShortSetValue}
+use Rattle.mv_short_sets.specs.ShortSet.{ValidSets}
 
 -- The values of the context, its lists as their items.
 pub record SliceContextValue : Type 0 where

@@ -1,14 +1,14 @@
 -- Numbers that slice segment headers derive (7.4.7.1, 8.3.2, F.7.4.7.1).
-use Rattle.std.specs.Prelude.{ℕ, suc, ◌+◌, Bool, ◌||◌, List, [], ◌∷◌, length, get_or, Option, Some, None, nat_eq, if◌then◌else◌}
+use Rattle.std.specs.Prelude.{ℕ, zero, suc, ◌+◌, Bool, List, [], length, get_or, map, Option, Some, None, nat_eq, if◌then◌else◌}
 use Rattle.std.specs.List.{filter}
 use Rattle.mv_syntax.specs.Words.{is_set, or_zero, ◌otherwise◌}
-use Rattle.mv_common.specs.ShortSetValue.{ShortSetValue}
-use Rattle.mv_common.specs.Deltas.{deltas, deltas_of_each}
-use Rattle.mv_common.specs.declared.delta.Delta.{Delta}
+use Rattle.mv_short_sets.specs.ShortSetValue.{ShortSetValue}
+use Rattle.mv_short_sets.specs.Deltas.{deltas, deltas_of_each}
+use Rattle.mv_short_sets.specs.declared.delta.Delta.{Delta}
 use Rattle.mv_slice.specs.declared.long_terms.LongTerm.{LongTerm}
 use Rattle.mv_slice.specs.Context.{SliceContextValue}
 use Rattle.mv_slice.specs.LongTerms.{LongTermsValue}
-use Rattle.mv_slice.specs.Picture.{SliceReferencesValue}
+use Rattle.mv_slice.specs.declared.picture.SliceReferences.{SliceReferences}
 
 -- The short-term set of a picture: the one that is coded, or else the one of the sequence parameter set that is named.
 unfoldable pub short_deltas : SliceContextValue → Option ShortSetValue → Option ℕ → List Delta
@@ -23,16 +23,15 @@ is_long_used ctx entry = is_set (entry.used_by_curr_pic_lt_flag otherwise get_or
 abbrev pub long_lsb : SliceContextValue → LongTerm → ℕ
 long_lsb ctx entry = entry.poc_lsb_lt otherwise get_or ctx.lt_ref_pic_poc_lsb_sps (or_zero entry.lt_idx_sps) 0
 
--- The cycle of entry i and of those behind it (DeltaPocMsbCycleLt): the coded one, which counts 0 where it is absent, and that of
--- the entry before, but for the first entry and for the first that is no candidate.
-abbrev pub cycles_from : ℕ → ℕ → ℕ → List LongTerm → List ℕ
-cycles_from num_long_term_sps i before [] = []
-cycles_from num_long_term_sps i before (entry ∷ more) =
-    let cycle : ℕ = or_zero entry.delta_poc_msb_cycle_lt + (if nat_eq i 0 || nat_eq i num_long_term_sps then 0 else before) in
-    cycle ∷ cycles_from num_long_term_sps (suc i) cycle more
+-- DeltaPocMsbCycleLt[i] (7-52): the coded cycle of entry i, which counts 0 where it is absent, plus that of the entry before, but for
+-- the first entry and for the first that is coded in the header.
+abbrev pub coded_cycle : LongTermsValue → ℕ → ℕ
+coded_cycle long_terms i = or_zero (get_or (map (λ (entry : LongTerm). entry.delta_poc_msb_cycle_lt) long_terms.entries) i None)
 
-abbrev pub cycles : LongTermsValue → List ℕ
-cycles long_terms = cycles_from (or_zero long_terms.num_long_term_sps) 0 0 long_terms.entries
+abbrev pub cycle : LongTermsValue → ℕ → ℕ
+cycle long_terms zero = coded_cycle long_terms 0
+cycle long_terms (suc i) =
+    coded_cycle long_terms (suc i) + (if nat_eq (suc i) (or_zero long_terms.num_long_term_sps) then 0 else cycle long_terms i)
 
 -- The used entries of the reference set.
 unfoldable pub num_short_used : List Delta → ℕ
@@ -45,7 +44,7 @@ abbrev pub long_entries : Option LongTermsValue → List LongTerm
 long_entries (Some long_terms) = long_terms.entries
 long_entries None = []
 
-unfoldable pub num_used : SliceContextValue → Option SliceReferencesValue → ℕ
+unfoldable pub num_used : SliceContextValue → Option SliceReferences → ℕ
 num_used ctx None = 0
 num_used ctx (Some references) =
     num_short_used (short_deltas ctx references.st_ref_pic_set references.short_term_ref_pic_set_idx)

@@ -1,9 +1,10 @@
 -- The end of a slice segment header (7.3.6.1): its entry points and its extension. Over 65,535 entry points, offsets of over 32
 -- bits and over 256 bytes of extension break the syntax rule, 52 (this project's profile).
 use Rattle.std.specs.Prelude.{ℕ, ◌+◌, ◌||◌, List, Option, nat_lt, refl}
-use Rattle.mv_syntax.specs.Table.{Table, ◌>>=◌, u, ue, named, when, shaped}
+use Rattle.mv_syntax.specs.Table.{Table, ◌>>=◌, ue, named, when, shaped}
 use Rattle.mv_syntax.specs.Words.{◌▸◌, ◌>>◌, ◌!◌∶◌, over, is_set, or_zero}
-use Rattle.mv_syntax.specs.Loops.{items}
+use Rattle.mv_syntax.specs.Loops.{us}
+use Rattle.mv_rules.specs.declared.rule.Rule.TheVariants.{SliceSyntax}
 use Rattle.mv_slice.specs.Context.{SliceContextValue}
 
 -- The fields in coded order; a loop that is not coded is an empty list.
@@ -14,29 +15,15 @@ pub record SliceEndingValue : Type 0 where
   pub slice_segment_header_extension_length : Option ℕ
   pub slice_segment_header_extension_data_byte : List ℕ
 
--- Entry point i, of this many bits.
-unfoldable pub entry_point : ℕ → ℕ → Table ℕ
-entry_point bits i = named "entry_point_offset_minus1" (u bits)
-
--- Byte i of the extension.
-unfoldable pub extension_byte : ℕ → Table ℕ
-extension_byte i = named "slice_segment_header_extension_data_byte" (u 8)
-
--- for each i
-unfoldable pub entry_points : ℕ → ℕ → Table (List ℕ)
-entry_points bits n = items 0 n (entry_point bits)
-
-unfoldable pub extension_bytes : ℕ → Table (List ℕ)
-extension_bytes n = items 0 n extension_byte
-
+-- The entry points and the extension.
 unfoldable pub ending : SliceContextValue → Table SliceEndingValue
 ending ctx = shaped
-    (λ c. record {
-      num_entry_point_offsets = c.0;
-      offset_len_minus1 = c.1.0;
-      entry_point_offset_minus1 = c.1.1.0;
-      slice_segment_header_extension_length = c.1.1.1.0;
-      slice_segment_header_extension_data_byte = c.1.1.1.1;
+    (λ (num_entry_point_offsets, (offset_len_minus1, (entry_point_offset_minus1, (slice_segment_header_extension_length, slice_segment_header_extension_data_byte)))). record {
+      num_entry_point_offsets = num_entry_point_offsets;
+      offset_len_minus1 = offset_len_minus1;
+      entry_point_offset_minus1 = entry_point_offset_minus1;
+      slice_segment_header_extension_length = slice_segment_header_extension_length;
+      slice_segment_header_extension_data_byte = slice_segment_header_extension_data_byte;
     })
     (λ v.
     v.num_entry_point_offsets
@@ -47,9 +34,9 @@ ending ctx = shaped
     (λ _. refl)
     do
       num_entry_point_offsets ← named "num_entry_point_offsets"
-          (when (is_set ctx.tiles_enabled_flag || is_set ctx.entropy_coding_sync_enabled_flag) (ue ! 52 ∶ over 65535))
-      offset_len_minus1 ← named "offset_len_minus1" (when (nat_lt 0 (or_zero num_entry_point_offsets)) (ue ! 52 ∶ over 31))
-      entry_points (or_zero offset_len_minus1 + 1) (or_zero num_entry_point_offsets)
+          (when (is_set ctx.tiles_enabled_flag || is_set ctx.entropy_coding_sync_enabled_flag) (ue ! SliceSyntax ∶ over 65535))
+      offset_len_minus1 ← named "offset_len_minus1" (when (nat_lt 0 (or_zero num_entry_point_offsets)) (ue ! SliceSyntax ∶ over 31))
+      named "entry_point_offset_minus1" (us 0 (or_zero num_entry_point_offsets) (or_zero offset_len_minus1 + 1))
       slice_segment_header_extension_length ← named "slice_segment_header_extension_length"
-          (when (is_set ctx.slice_segment_header_extension_present_flag) (ue ! 52 ∶ over 256))
-      extension_bytes (or_zero slice_segment_header_extension_length)
+          (when (is_set ctx.slice_segment_header_extension_present_flag) (ue ! SliceSyntax ∶ over 256))
+      named "slice_segment_header_extension_data_byte" (us 0 (or_zero slice_segment_header_extension_length) 8)

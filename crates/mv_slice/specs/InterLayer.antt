@@ -3,10 +3,11 @@
 use Rattle.std.specs.Prelude.{ℕ, Bool, not, ◌&&◌, ◌||◌, List, Option, Some, nat_lt, nat_le, nat_eq, refl}
 use Rattle.std.specs.List.{list_any}
 use Rattle.mv_syntax.specs.Table.{Table, ◌>>=◌, u, named, when, shaped}
-use Rattle.mv_syntax.specs.Words.{◌▸◌, ◌!◌∶◌, is_set, coded_set}
+use Rattle.mv_syntax.specs.Words.{◌▸◌, ◌!◌∶◌, at_least, is_set, coded_set}
 use Rattle.mv_syntax.specs.Loops.{items_after}
+use Rattle.mv_rules.specs.declared.rule.Rule.TheVariants.{SliceSyntax}
 use Rattle.mv_slice.specs.Context.{SliceContextValue}
-use Rattle.mv_slice.specs.Numbers.{clog2, at_least}
+use Rattle.mv_fields.specs.Widths.{clog2}
 use Rattle.mv_slice.specs.Layers.{num_active_ref_layer_pics, lacks_layers}
 
 -- The fields in coded order; a loop that is not coded is None.
@@ -27,7 +28,7 @@ is_bad_layer ctx before n = at_least ctx.directs n || list_any (λ m. nat_le n m
 unfoldable pub active_layer : SliceContextValue → ℕ → List ℕ → Table ℕ
 active_layer ctx i before =
     named "inter_layer_pred_layer_idc"
-    (u (clog2 ctx.directs) ! 52 ∶ is_bad_layer ctx before)
+    (u (clog2 ctx.directs) ! SliceSyntax ∶ is_bad_layer ctx before)
 
 -- for i = 0 to NumActiveRefLayerPics-1
 unfoldable pub active_layer_numbers : SliceContextValue → ℕ → Table (List ℕ)
@@ -35,10 +36,10 @@ active_layer_numbers ctx n = items_after 0 n (active_layer ctx)
 
 unfoldable pub inter_layer : SliceContextValue → Table SliceInterLayerValue
 inter_layer ctx = shaped
-    (λ c. record {
-      inter_layer_pred_enabled_flag = c.0;
-      num_inter_layer_ref_pics_minus1 = c.1.0;
-      inter_layer_pred_layer_idc = c.1.1;
+    (λ (inter_layer_pred_enabled_flag, (num_inter_layer_ref_pics_minus1, inter_layer_pred_layer_idc)). record {
+      inter_layer_pred_enabled_flag = inter_layer_pred_enabled_flag;
+      num_inter_layer_ref_pics_minus1 = num_inter_layer_ref_pics_minus1;
+      inter_layer_pred_layer_idc = inter_layer_pred_layer_idc;
     })
     (λ v.
     v.inter_layer_pred_enabled_flag
@@ -50,6 +51,6 @@ inter_layer ctx = shaped
           (when (nat_lt 0 ctx.layer && not (is_set ctx.default_ref_layers_active_flag) && nat_lt 0 ctx.directs) (u 1))
       let several : Bool = coded_set inter_layer_pred_enabled_flag && nat_lt 1 ctx.directs in do
         num_inter_layer_ref_pics_minus1 ← named "num_inter_layer_ref_pics_minus1" (when (several && not (is_set ctx.max_one_active_ref_layer_flag))
-            (u (clog2 ctx.directs) ! 52 ∶ is_bad_number ctx))
+            (u (clog2 ctx.directs) ! SliceSyntax ∶ is_bad_number ctx))
         let num_active : ℕ = num_active_ref_layer_pics ctx inter_layer_pred_enabled_flag num_inter_layer_ref_pics_minus1 in
             when (several && not (nat_eq num_active ctx.directs)) (active_layer_numbers ctx num_active)

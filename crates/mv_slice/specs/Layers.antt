@@ -1,5 +1,6 @@
 -- The direct reference layers that a picture refers to (F.7.4.7.1). They are numbered from 0 in rising order of their layers.
-use Rattle.std.specs.Prelude.{ℕ, suc, ◌+◌, Bool, not, ◌&&◌, ◌||◌, List, [], ◌∷◌, length, take, Option, nat_le, nat_eq, nat_lt, if◌then◌else◌}
+use Rattle.std.specs.Prelude.{ℕ, ◌+◌, Bool, not, ◌&&◌, ◌||◌, List, length, get_or, take, Option, nat_le, nat_eq, nat_lt, if◌then◌else◌}
+use Rattle.std.specs.List.{filter, range_with_len}
 use Rattle.mv_syntax.specs.Words.{is_set, or_zero, coded_set, over, ◌otherwise◌}
 use Rattle.mv_slice.specs.Context.{SliceContextValue}
 
@@ -14,13 +15,13 @@ abbrev pub may_refer : ℕ → DirectLayer → Bool
 may_refer tid direct =
     nat_le tid direct.sub_layers_vps_max_minus1 && (nat_eq tid 0 || nat_lt tid direct.max_tid_il_ref_pics_plus1)
 
--- The numbers of those layers, from number i on, that a picture of this TemporalId may refer to.
-abbrev pub eligible_from : ℕ → ℕ → List DirectLayer → List ℕ
-eligible_from tid i [] = []
-eligible_from tid i (direct ∷ more) = if may_refer tid direct then i ∷ eligible_from tid (suc i) more else eligible_from tid (suc i) more
+-- Layer i of some.
+abbrev pub layer_at : List DirectLayer → ℕ → DirectLayer
+layer_at directs i = get_or directs i (record { sub_layers_vps_max_minus1 = 0; max_tid_il_ref_pics_plus1 = 0 })
 
+-- The numbers i of the direct reference layers that a picture of this TemporalId may refer to, in rising order.
 abbrev pub eligible : ℕ → List DirectLayer → List ℕ
-eligible tid directs = eligible_from tid 0 directs
+eligible tid directs = filter (λ i. may_refer tid (layer_at directs i)) (range_with_len 0 (length directs))
 
 -- NumActiveRefLayerPics, from inter_layer_pred_enabled_flag and num_inter_layer_ref_pics_minus1.
 unfoldable pub num_active_ref_layer_pics : SliceContextValue → Option ℕ → Option ℕ → ℕ

@@ -1,6 +1,5 @@
 pub mod Numbers
 pub mod Context
-pub mod Faults
 pub mod Opening
 pub mod LongTerms
 pub mod Picture
@@ -8,8 +7,10 @@ pub mod Layers
 pub mod InterLayer
 pub mod Derived
 pub mod Weights
+pub mod ListModification
 pub mod Prediction
 pub mod Filters
 pub mod Ending
 pub mod Slice
 pub mod Peek
+pub mod Header

@@ -2,11 +2,12 @@
 -- 16 coded here, and an index past the candidates break the syntax rule, 52 (this project's profile).
 use Rattle.std.specs.Prelude.{ℕ, ◌+◌, not, ◌&&◌, List, Option, nat_lt, refl}
 use Rattle.mv_syntax.specs.Table.{Table, ◌>>=◌, u, ue, named, when, shaped}
-use Rattle.mv_syntax.specs.Words.{◌▸◌, ◌>>◌, ◌!◌∶◌, over, is_set, or_zero}
+use Rattle.mv_syntax.specs.Words.{◌▸◌, ◌>>◌, ◌!◌∶◌, at_least, over, is_set, or_zero}
 use Rattle.mv_syntax.specs.Loops.{items}
+use Rattle.mv_rules.specs.declared.rule.Rule.TheVariants.{SliceSyntax}
 use Rattle.mv_slice.specs.declared.long_terms.LongTerm.{LongTerm}
 use Rattle.mv_slice.specs.Context.{SliceContextValue}
-use Rattle.mv_slice.specs.Numbers.{clog2, at_least}
+use Rattle.mv_fields.specs.Widths.{clog2}
 
 -- The fields in coded order, those of the loop as one entry a turn.
 pub record LongTermsValue : Type 0 where
@@ -17,12 +18,12 @@ pub record LongTermsValue : Type 0 where
 -- Entry i: one of the candidates of the sequence parameter set for the first num_long_term_sps, and else coded here.
 unfoldable pub long_term : SliceContextValue → ℕ → ℕ → Table LongTerm
 long_term ctx num_long_term_sps i = shaped
-    (λ c. record {
-      lt_idx_sps = c.0;
-      poc_lsb_lt = c.1.0;
-      used_by_curr_pic_lt_flag = c.1.1.0;
-      delta_poc_msb_present_flag = c.1.1.1.0;
-      delta_poc_msb_cycle_lt = c.1.1.1.1;
+    (λ (lt_idx_sps, (poc_lsb_lt, (used_by_curr_pic_lt_flag, (delta_poc_msb_present_flag, delta_poc_msb_cycle_lt)))). record {
+      lt_idx_sps = lt_idx_sps;
+      poc_lsb_lt = poc_lsb_lt;
+      used_by_curr_pic_lt_flag = used_by_curr_pic_lt_flag;
+      delta_poc_msb_present_flag = delta_poc_msb_present_flag;
+      delta_poc_msb_cycle_lt = delta_poc_msb_cycle_lt;
     })
     (λ v.
     v.lt_idx_sps
@@ -33,7 +34,7 @@ long_term ctx num_long_term_sps i = shaped
     (λ _. refl)
     do
       named "lt_idx_sps" (when (nat_lt i num_long_term_sps && nat_lt 1 ctx.num_long_term_ref_pics_sps)
-          (u (clog2 ctx.num_long_term_ref_pics_sps) ! 52 ∶ at_least ctx.num_long_term_ref_pics_sps))
+          (u (clog2 ctx.num_long_term_ref_pics_sps) ! SliceSyntax ∶ at_least ctx.num_long_term_ref_pics_sps))
       named "poc_lsb_lt" (when (not (nat_lt i num_long_term_sps)) (u ctx.lsb_bits))
       named "used_by_curr_pic_lt_flag" (when (not (nat_lt i num_long_term_sps)) (u 1))
       delta_poc_msb_present_flag ← named "delta_poc_msb_present_flag" (u 1)
@@ -45,10 +46,10 @@ entries ctx num_long_term_sps n = items 0 n (long_term ctx num_long_term_sps)
 
 unfoldable pub long_terms : SliceContextValue → Table LongTermsValue
 long_terms ctx = shaped
-    (λ c. record {
-      num_long_term_sps = c.0;
-      num_long_term_pics = c.1.0;
-      entries = c.1.1;
+    (λ (num_long_term_sps, (num_long_term_pics, entries)). record {
+      num_long_term_sps = num_long_term_sps;
+      num_long_term_pics = num_long_term_pics;
+      entries = entries;
     })
     (λ v.
     v.num_long_term_sps
@@ -56,6 +57,6 @@ long_terms ctx = shaped
     ▸ v.entries)
     (λ _. refl)
     do
-      num_long_term_sps ← named "num_long_term_sps" (when (nat_lt 0 ctx.num_long_term_ref_pics_sps) (ue ! 52 ∶ over 16))
-      num_long_term_pics ← named "num_long_term_pics" (ue ! 52 ∶ over 16)
+      num_long_term_sps ← named "num_long_term_sps" (when (nat_lt 0 ctx.num_long_term_ref_pics_sps) (ue ! SliceSyntax ∶ over 16))
+      num_long_term_pics ← named "num_long_term_pics" (ue ! SliceSyntax ∶ over 16)
       entries ctx (or_zero num_long_term_sps) (or_zero num_long_term_sps + num_long_term_pics)

@@ -1,17 +1,5 @@
--- What the conditions of a slice segment header ask of numbers (5.8, 7.4.2.2, 7.4.7.1).
-use Rattle.std.specs.Prelude.{ℕ, zero, suc, ◌^◌, Bool, ◌&&◌, ◌||◌, nat_le, nat_eq, if◌then◌else◌}
-
--- clog2(x), Ceil(Log2(x)): the least k with 2 ^ k at least x, for x up to 2 ^ 32. The first of k and the `more` numbers behind it.
-unfoldable pub clog2_from : ℕ → ℕ → ℕ → ℕ
-clog2_from zero k x = k
-clog2_from (suc more) k x = if nat_le x (2 ^ k) then k else clog2_from more (suc k) x
-
-unfoldable pub clog2 : ℕ → ℕ
-clog2 x = clog2_from 32 0 x
-
--- A value is n or more.
-abbrev pub at_least : ℕ → ℕ → Bool
-at_least n v = nat_le n v
+-- What the conditions of a slice segment header ask of numbers (7.4.2.2, 7.4.7.1).
+use Rattle.std.specs.Prelude.{ℕ, Bool, ◌&&◌, ◌||◌, nat_le, nat_eq}
 
 -- An instantaneous decoding refresh picture, nal_unit_type 19 and 20.
 abbrev pub is_idr : ℕ → Bool

@@ -3,18 +3,20 @@
 use Rattle.std.specs.Prelude.{ℕ, Bool, not, ◌&&◌, refl}
 use Rattle.mv_syntax.specs.Table.{Table, u, ue, named, when, shaped}
 use Rattle.mv_syntax.specs.Words.{◌▸◌, ◌>>◌, ◌!◌∶◌, over, is_set}
+use Rattle.mv_rules.specs.declared.rule.Rule.TheVariants.{SliceSyntax}
 use Rattle.mv_slice.specs.declared.opening.SliceOpening.{SliceOpening}
 use Rattle.mv_slice.specs.declared.opening.SliceAddress.{SliceAddress}
 use Rattle.mv_slice.specs.Context.{SliceContextValue}
-use Rattle.mv_slice.specs.Numbers.{clog2, is_irap}
+use Rattle.mv_fields.specs.Widths.{clog2}
+use Rattle.mv_slice.specs.Numbers.{is_irap}
 
 -- The fields up to the id of the picture parameter set, which ask for nothing but the unit's nal_unit_type.
 unfoldable pub opening : ℕ → Table SliceOpening
 opening nal_unit_type = shaped
-    (λ c. record {
-      first_slice_segment_in_pic_flag = c.0;
-      no_output_of_prior_pics_flag = c.1.0;
-      slice_pic_parameter_set_id = c.1.1;
+    (λ (first_slice_segment_in_pic_flag, (no_output_of_prior_pics_flag, slice_pic_parameter_set_id)). record {
+      first_slice_segment_in_pic_flag = first_slice_segment_in_pic_flag;
+      no_output_of_prior_pics_flag = no_output_of_prior_pics_flag;
+      slice_pic_parameter_set_id = slice_pic_parameter_set_id;
     })
     (λ v.
     v.first_slice_segment_in_pic_flag
@@ -24,14 +26,14 @@ opening nal_unit_type = shaped
     do
       named "first_slice_segment_in_pic_flag" (u 1)
       named "no_output_of_prior_pics_flag" (when (is_irap nal_unit_type) (u 1))
-      named "slice_pic_parameter_set_id" (ue ! 52 ∶ over 63)
+      named "slice_pic_parameter_set_id" (ue ! SliceSyntax ∶ over 63)
 
 -- Where a segment that isn't the picture's first begins, in coding tree blocks.
 unfoldable pub address : SliceContextValue → Bool → Table SliceAddress
 address ctx first = shaped
-    (λ c. record {
-      dependent_slice_segment_flag = c.0;
-      slice_segment_address = c.1;
+    (λ (dependent_slice_segment_flag, slice_segment_address). record {
+      dependent_slice_segment_flag = dependent_slice_segment_flag;
+      slice_segment_address = slice_segment_address;
     })
     (λ v.
     v.dependent_slice_segment_flag

@@ -1,7 +1,7 @@
 -- What is told of a slice segment from its first fields.
 use Rattle.std.specs.Prelude.{◌≡◌, Bool, List, Result, Ok, Err}
-use Rattle.mv_io.specs.declared.rule.Rule.{Rule}
-use Rattle.mv_io.specs.declared.rule.Rule.TheVariants.{SliceSyntax}
+use Rattle.mv_rules.specs.declared.rule.Rule.{Rule}
+use Rattle.mv_rules.specs.declared.rule.Rule.TheVariants.{SliceSyntax}
 use Rattle.mv_syntax.specs.Table.{Table, Reads}
 use Rattle.mv_syntax.specs.Words.{is_set}
 use Rattle.mv_slice.specs.declared.opening.SliceOpening.{SliceOpening}

@@ -2,36 +2,32 @@
 -- cross_layer_bla_flag 1 breaks rule 53 (this project's profile); a slice_type over 2 and a set that the sequence parameter set
 -- hasn't break the syntax rule, 52.
 use Rattle.std.specs.Prelude.{ℕ, ◌-◌, Bool, not, ◌&&◌, ◌||◌, List, Option, nat_lt, nat_eq, refl}
-use Rattle.mv_syntax.specs.Table.{Table, ◌>>=◌, u, ue, named, when, by_rule, shaped}
-use Rattle.mv_syntax.specs.Words.{◌▸◌, ◌>>◌, ◌!◌∶◌, over, is_set}
-use Rattle.mv_syntax.specs.Loops.{items}
-use Rattle.mv_common.specs.ShortSetValue.{ShortSetValue}
-use Rattle.mv_common.specs.ShortSet.{st_ref_pic_set}
-use Rattle.mv_common.specs.Deltas.{deltas_of_each}
+use Rattle.mv_syntax.specs.Table.{Table, ◌>>=◌, u, ue, named, when, shaped}
+use Rattle.mv_syntax.specs.Words.{◌under◌, ◌▸◌, ◌>>◌, ◌!◌∶◌, at_least, over, is_set}
+use Rattle.mv_syntax.specs.Loops.{us}
+use Rattle.mv_rules.specs.declared.rule.Rule.TheVariants.{CrossLayerBla, SliceSyntax}
+use Rattle.mv_short_sets.specs.ShortSetValue.{ShortSetValue}
+use Rattle.mv_short_sets.specs.ShortSet.{st_ref_pic_set}
+use Rattle.mv_short_sets.specs.Deltas.{deltas_of_each}
+use Rattle.mv_slice.specs.declared.picture.SliceReferences.{SliceReferences}
 use Rattle.mv_slice.specs.Context.{SliceContextValue}
-use Rattle.mv_slice.specs.Numbers.{clog2, at_least, is_idr}
+use Rattle.mv_fields.specs.Widths.{clog2}
+use Rattle.mv_slice.specs.Numbers.{is_idr}
 use Rattle.mv_slice.specs.LongTerms.{LongTermsValue, long_terms}
-
--- The reference pictures of a picture that is no IDR picture, in coded order.
-pub record SliceReferencesValue : Type 0 where
-  pub short_term_ref_pic_set_sps_flag : ℕ
-  pub st_ref_pic_set : Option ShortSetValue
-  pub short_term_ref_pic_set_idx : Option ℕ
-  pub long_terms : Option LongTermsValue
-  pub slice_temporal_mvp_enabled_flag : Option ℕ
 
 -- The set of a slice segment header stands behind all sets of the sequence parameter set.
 abbrev pub own_set : SliceContextValue → Table ShortSetValue
-own_set ctx = by_rule 52 (st_ref_pic_set ctx.num_short_term_ref_pic_sets ctx.num_short_term_ref_pic_sets (deltas_of_each ctx.short_sets))
+own_set ctx = st_ref_pic_set ctx.num_short_term_ref_pic_sets ctx.num_short_term_ref_pic_sets (deltas_of_each ctx.short_sets) under SliceSyntax
 
-unfoldable pub references : SliceContextValue → Table SliceReferencesValue
+-- The reference pictures in its own layer of a picture that is no IDR picture.
+unfoldable pub references : SliceContextValue → Table SliceReferences
 references ctx = shaped
-    (λ c. record {
-      short_term_ref_pic_set_sps_flag = c.0;
-      st_ref_pic_set = c.1.0;
-      short_term_ref_pic_set_idx = c.1.1.0;
-      long_terms = c.1.1.1.0;
-      slice_temporal_mvp_enabled_flag = c.1.1.1.1;
+    (λ (short_term_ref_pic_set_sps_flag, (st_ref_pic_set, (short_term_ref_pic_set_idx, (long_terms, slice_temporal_mvp_enabled_flag)))). record {
+      short_term_ref_pic_set_sps_flag = short_term_ref_pic_set_sps_flag;
+      st_ref_pic_set = st_ref_pic_set;
+      short_term_ref_pic_set_idx = short_term_ref_pic_set_idx;
+      long_terms = long_terms;
+      slice_temporal_mvp_enabled_flag = slice_temporal_mvp_enabled_flag;
     })
     (λ v.
     v.short_term_ref_pic_set_sps_flag
@@ -41,10 +37,10 @@ references ctx = shaped
     ▸ v.slice_temporal_mvp_enabled_flag)
     (λ _. refl)
     do
-      short_term_ref_pic_set_sps_flag ← named "short_term_ref_pic_set_sps_flag" (u 1 ! 52 ∶ (λ flag. is_set flag && nat_eq ctx.num_short_term_ref_pic_sets 0))
+      short_term_ref_pic_set_sps_flag ← named "short_term_ref_pic_set_sps_flag" (u 1 ! SliceSyntax ∶ (λ flag. is_set flag && nat_eq ctx.num_short_term_ref_pic_sets 0))
       when (not (is_set short_term_ref_pic_set_sps_flag)) (own_set ctx)
       named "short_term_ref_pic_set_idx" (when (is_set short_term_ref_pic_set_sps_flag && nat_lt 1 ctx.num_short_term_ref_pic_sets)
-          (u (clog2 ctx.num_short_term_ref_pic_sets) ! 52 ∶ at_least ctx.num_short_term_ref_pic_sets))
+          (u (clog2 ctx.num_short_term_ref_pic_sets) ! SliceSyntax ∶ at_least ctx.num_short_term_ref_pic_sets))
       when (is_set ctx.long_term_ref_pics_present_flag) (long_terms ctx)
       named "slice_temporal_mvp_enabled_flag" (when (is_set ctx.sps_temporal_mvp_enabled_flag) (u 1))
 
@@ -56,15 +52,7 @@ pub record SlicePictureValue : Type 0 where
   pub slice_type : ℕ
   pub pic_output_flag : Option ℕ
   pub slice_pic_order_cnt_lsb : Option ℕ
-  pub references : Option SliceReferencesValue
-
--- Flag i of those that have no meaning here.
-unfoldable pub reserved_flag : ℕ → Table ℕ
-reserved_flag i = named "slice_reserved_flag" (u 1)
-
--- n flags from flag 2 on
-unfoldable pub reserved_flags : ℕ → Table (List ℕ)
-reserved_flags n = items 2 n reserved_flag
+  pub references : Option SliceReferences
 
 -- Whether the low bits of the picture order count are coded: for all pictures but those IDR pictures whose low bits are 0.
 abbrev pub has_lsb : SliceContextValue → ℕ → Bool
@@ -73,14 +61,14 @@ has_lsb ctx nal_unit_type =
 
 unfoldable pub picture : SliceContextValue → ℕ → Table SlicePictureValue
 picture ctx nal_unit_type = shaped
-    (λ c. record {
-      discardable_flag = c.0;
-      cross_layer_bla_flag = c.1.0;
-      slice_reserved_flag = c.1.1.0;
-      slice_type = c.1.1.1.0;
-      pic_output_flag = c.1.1.1.1.0;
-      slice_pic_order_cnt_lsb = c.1.1.1.1.1.0;
-      references = c.1.1.1.1.1.1;
+    (λ (discardable_flag, (cross_layer_bla_flag, (slice_reserved_flag, (slice_type, (pic_output_flag, (slice_pic_order_cnt_lsb, references)))))). record {
+      discardable_flag = discardable_flag;
+      cross_layer_bla_flag = cross_layer_bla_flag;
+      slice_reserved_flag = slice_reserved_flag;
+      slice_type = slice_type;
+      pic_output_flag = pic_output_flag;
+      slice_pic_order_cnt_lsb = slice_pic_order_cnt_lsb;
+      references = references;
     })
     (λ v.
     v.discardable_flag
@@ -93,9 +81,9 @@ picture ctx nal_unit_type = shaped
     (λ _. refl)
     do
       named "discardable_flag" (when (nat_lt 0 ctx.num_extra_slice_header_bits) (u 1))
-      named "cross_layer_bla_flag" (when (nat_lt 1 ctx.num_extra_slice_header_bits) (u 1 ! 53 ∶ is_set))
-      reserved_flags (ctx.num_extra_slice_header_bits - 2)
-      named "slice_type" (ue ! 52 ∶ over 2)
+      named "cross_layer_bla_flag" (when (nat_lt 1 ctx.num_extra_slice_header_bits) (u 1 ! CrossLayerBla ∶ is_set))
+      named "slice_reserved_flag" (us 2 (ctx.num_extra_slice_header_bits - 2) 1)
+      named "slice_type" (ue ! SliceSyntax ∶ over 2)
       named "pic_output_flag" (when (is_set ctx.output_flag_present_flag) (u 1))
       named "slice_pic_order_cnt_lsb" (when (has_lsb ctx nal_unit_type) (u ctx.lsb_bits))
       when (not (is_idr nal_unit_type)) (references ctx)

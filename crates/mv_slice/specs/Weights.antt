@@ -1,8 +1,8 @@
 -- pred_weight_table (7.3.6.3): the weights of the active entries of the reference picture lists.
 use Rattle.std.specs.Prelude.{ℕ, ℤ, Bool, List, [], Option, get_or, nat_eq, refl, if◌then◌else◌}
-use Rattle.mv_syntax.specs.Table.{Table, ◌>>=◌, u, ue, se, named, when, shaped}
+use Rattle.mv_syntax.specs.Table.{Table, ◌>>=◌, ue, se, named, when, shaped}
 use Rattle.mv_syntax.specs.Words.{◌▸◌, ◌>>◌, is_set, ◌otherwise◌}
-use Rattle.mv_syntax.specs.Loops.{items}
+use Rattle.mv_syntax.specs.Loops.{items, us, each}
 use Rattle.mv_slice.specs.declared.weights.ChromaWeight.{ChromaWeight}
 
 -- The weights of an entry; those of chroma are that of Cb and that of Cr.
@@ -23,18 +23,12 @@ pub record PredWeightTableValue : Type 0 where
   pub delta_chroma_log2_weight_denom : Option ℤ
   pub lists : List ListWeightsValue
 
-unfoldable pub luma_flag : ℕ → Table ℕ
-luma_flag i = named "luma_weight_flag" (u 1)
-
-unfoldable pub chroma_flag : ℕ → Table ℕ
-chroma_flag i = named "chroma_weight_flag" (u 1)
-
--- Turn j: Cb is 0, Cr is 1.
-unfoldable pub chroma_weight : ℕ → Table ChromaWeight
-chroma_weight j = shaped
-    (λ c. record {
-      delta_chroma_weight = c.0;
-      delta_chroma_offset = c.1;
+-- The weight of Cb, or that of Cr.
+unfoldable pub chroma_weight : Table ChromaWeight
+chroma_weight = shaped
+    (λ (delta_chroma_weight, delta_chroma_offset). record {
+      delta_chroma_weight = delta_chroma_weight;
+      delta_chroma_offset = delta_chroma_offset;
     })
     (λ v.
     v.delta_chroma_weight
@@ -46,7 +40,7 @@ chroma_weight j = shaped
 
 -- twice
 unfoldable pub chroma_weights : Table (List ChromaWeight)
-chroma_weights = items 0 2 chroma_weight
+chroma_weights = items 0 2 (each chroma_weight)
 
 -- Flag i of a list is 1.
 abbrev pub flag_at : List ℕ → ℕ → Bool
@@ -55,10 +49,10 @@ flag_at flags i = is_set (get_or flags i 0)
 -- Entry i, behind the flags of all.
 unfoldable pub entry_weights : List ℕ → List ℕ → ℕ → Table EntryWeightsValue
 entry_weights luma_weight_flag chroma_weight_flag i = shaped
-    (λ c. record {
-      delta_luma_weight = c.0;
-      luma_offset = c.1.0;
-      chroma = c.1.1;
+    (λ (delta_luma_weight, (luma_offset, chroma)). record {
+      delta_luma_weight = delta_luma_weight;
+      luma_offset = luma_offset;
+      chroma = chroma;
     })
     (λ v.
     v.delta_luma_weight
@@ -71,22 +65,16 @@ entry_weights luma_weight_flag chroma_weight_flag i = shaped
       when (flag_at chroma_weight_flag i) chroma_weights
 
 -- for each active i
-unfoldable pub luma_flags : ℕ → Table (List ℕ)
-luma_flags active = items 0 active luma_flag
-
-unfoldable pub chroma_flags : ℕ → Table (List ℕ)
-chroma_flags active = items 0 active chroma_flag
-
 unfoldable pub entry_weights_of_all : List ℕ → List ℕ → ℕ → Table (List EntryWeightsValue)
 entry_weights_of_all luma_weight_flag chroma_weight_flag active = items 0 active (entry_weights luma_weight_flag chroma_weight_flag)
 
 -- The weights of a list with this number of active entries.
 unfoldable pub list_weights : Bool → ℕ → Table ListWeightsValue
 list_weights chroma active = shaped
-    (λ c. record {
-      luma_weight_flag = c.0;
-      chroma_weight_flag = c.1.0;
-      entries = c.1.1;
+    (λ (luma_weight_flag, (chroma_weight_flag, entries)). record {
+      luma_weight_flag = luma_weight_flag;
+      chroma_weight_flag = chroma_weight_flag;
+      entries = entries;
     })
     (λ v.
     v.luma_weight_flag
@@ -94,8 +82,8 @@ list_weights chroma active = shaped
     ▸ v.entries)
     (λ _. refl)
     do
-      luma_weight_flag ← luma_flags active
-      chroma_weight_flag ← when chroma (chroma_flags active)
+      luma_weight_flag ← named "luma_weight_flag" (us 0 active 1)
+      chroma_weight_flag ← named "chroma_weight_flag" (when chroma (us 0 active 1))
       entry_weights_of_all luma_weight_flag (chroma_weight_flag otherwise []) active
 
 -- List 0 or 1, from the numbers of active entries of both.
@@ -108,10 +96,10 @@ lists_weights chroma active_l0 active_l1 lists = items 0 lists (numbered_list ch
 
 unfoldable pub pred_weight_table : Bool → Bool → ℕ → ℕ → Table PredWeightTableValue
 pred_weight_table chroma b active_l0 active_l1 = shaped
-    (λ c. record {
-      luma_log2_weight_denom = c.0;
-      delta_chroma_log2_weight_denom = c.1.0;
-      lists = c.1.1;
+    (λ (luma_log2_weight_denom, (delta_chroma_log2_weight_denom, lists)). record {
+      luma_log2_weight_denom = luma_log2_weight_denom;
+      delta_chroma_log2_weight_denom = delta_chroma_log2_weight_denom;
+      lists = lists;
     })
     (λ v.
     v.luma_log2_weight_denom

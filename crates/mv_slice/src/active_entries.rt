@@ -3,6 +3,7 @@
 ghost use Rattle.std.specs.Prelude.{◌≡◌, ◌≤◌, ◌&&◌};
 ghost use Rattle.mv_syntax.specs.Table.{ue, when, Valid};
 ghost use Rattle.mv_syntax.specs.Words.{◌!◌∶◌, over, or_zero};
+ghost use Rattle.mv_rules.specs.declared.rule.Rule.TheVariants.{SliceSyntax};
 ghost use Rattle.mv_slice.specs.Context.{Fits};
 ghost use Rattle.mv_slice.specs.Prediction.{num_entries};
 
@@ -50,8 +51,8 @@ pub(crate) fn active_entries_of(
     minus1_l1: Option<u32>,
 ) -> ActiveEntries
     requires fits { Fits ctx.now }
-    requires valid_l0 { Valid (when overrides (ue ! 52 ∶ over 14)) minus1_l0 }
-    requires valid_l1 { Valid (when (overrides && b) (ue ! 52 ∶ over 14)) minus1_l1 }
+    requires valid_l0 { Valid (when overrides (ue ! SliceSyntax ∶ over 14)) minus1_l0 }
+    requires valid_l1 { Valid (when (overrides && b) (ue ! SliceSyntax ∶ over 14)) minus1_l1 }
     ensures l0 { result.l0 ≡ num_entries minus1_l0 ctx.now.num_ref_idx_l0_default_active_minus1 }
     ensures l1 { result.l1 ≡ num_entries minus1_l1 ctx.now.num_ref_idx_l1_default_active_minus1 }
 {

@@ -1,19 +1,18 @@
 //! What slice segment headers take from the parameter sets that are in force.
 
-use mv_common::ShortSet;
-use smallvec::SmallVec;
+use mv_short_sets::ShortSet;
 use std::marker::Model;
 
 /// What the header of a slice segment takes from the video, sequence and picture parameter sets that are in force for it
-/// (7.3.6.1, F.7.3.6.1). A field that its set leaves out has the value that is stated for it there, or 0.
+/// (7.3.6.1, F.7.3.6.1), with its lists lent. A field that its set leaves out has the value that is stated for it there, or 0.
 #[derive(Debug, Drop)]
-pub struct SliceContext {
+pub struct SliceContext<'a> {
     /// The picture's layer, nuh_layer_id.
     pub layer: u8,
     /// How many direct reference layers it has.
     pub directs: u8,
     /// Those of them that the picture may refer to, by their numbers from 0 on, which rise.
-    pub eligible: SmallVec<u8, 8>,
+    pub eligible: &'a [u8],
     /// The layer's.
     pub poc_lsb_not_present_flag: u8,
     pub default_ref_layers_active_flag: u8,
@@ -26,11 +25,11 @@ pub struct SliceContext {
     pub chroma: bool,
     pub num_short_term_ref_pic_sets: u32,
     /// The sets of the sequence parameter set.
-    pub short_sets: Vec<ShortSet>,
+    pub short_sets: &'a [ShortSet],
     pub long_term_ref_pics_present_flag: u8,
     pub num_long_term_ref_pics_sps: u32,
-    pub lt_ref_pic_poc_lsb_sps: Vec<u16>,
-    pub used_by_curr_pic_lt_sps_flag: Vec<u8>,
+    pub lt_ref_pic_poc_lsb_sps: &'a [u16],
+    pub used_by_curr_pic_lt_sps_flag: &'a [u8],
     pub sps_temporal_mvp_enabled_flag: u8,
     pub sample_adaptive_offset_enabled_flag: u8,
     pub dependent_slice_segments_enabled_flag: u8,
@@ -51,7 +50,7 @@ pub struct SliceContext {
     pub slice_segment_header_extension_present_flag: u8,
 }
 
-impl Model for SliceContext {
+impl<'a> Model for SliceContext<'a> {
     ghost use Rattle.mv_slice.specs.Context.{SliceContextValue};
 
     ghost Value = { SliceContextValue };
@@ -59,7 +58,7 @@ impl Model for SliceContext {
     ghost view = { λ s. record {
       layer = s.layer;
       directs = s.directs;
-      eligible = s.eligible.items;
+      eligible = s.eligible.now;
       poc_lsb_not_present_flag = s.poc_lsb_not_present_flag;
       default_ref_layers_active_flag = s.default_ref_layers_active_flag;
       max_one_active_ref_layer_flag = s.max_one_active_ref_layer_flag;
@@ -67,11 +66,11 @@ impl Model for SliceContext {
       lsb_bits = s.lsb_bits;
       chroma = s.chroma;
       num_short_term_ref_pic_sets = s.num_short_term_ref_pic_sets;
-      short_sets = s.short_sets.items;
+      short_sets = s.short_sets.now;
       long_term_ref_pics_present_flag = s.long_term_ref_pics_present_flag;
       num_long_term_ref_pics_sps = s.num_long_term_ref_pics_sps;
-      lt_ref_pic_poc_lsb_sps = s.lt_ref_pic_poc_lsb_sps.items;
-      used_by_curr_pic_lt_sps_flag = s.used_by_curr_pic_lt_sps_flag.items;
+      lt_ref_pic_poc_lsb_sps = s.lt_ref_pic_poc_lsb_sps.now;
+      used_by_curr_pic_lt_sps_flag = s.used_by_curr_pic_lt_sps_flag.now;
       sps_temporal_mvp_enabled_flag = s.sps_temporal_mvp_enabled_flag;
       sample_adaptive_offset_enabled_flag = s.sample_adaptive_offset_enabled_flag;
       dependent_slice_segments_enabled_flag = s.dependent_slice_segments_enabled_flag;

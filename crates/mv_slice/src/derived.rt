@@ -4,8 +4,8 @@ ghost use Rattle.std.specs.Prelude.{◌≡◌, ◌≤◌, [], Some, length, get_
 ghost use Rattle.std.specs.List.{filter};
 ghost use Rattle.mv_syntax.specs.Table.{Valid};
 ghost use Rattle.mv_syntax.specs.Words.{is_set};
-ghost use Rattle.mv_common.specs.Deltas.{deltas, deltas_of_each};
-ghost use Rattle.mv_common.specs.ShortSet.{st_ref_pic_set, AreShortArgs};
+ghost use Rattle.mv_short_sets.specs.Deltas.{deltas, deltas_of_each};
+ghost use Rattle.mv_short_sets.specs.ShortSet.{st_ref_pic_set, AreShortArgs};
 ghost use Rattle.mv_slice.specs.Context.{Fits};
 ghost use Rattle.mv_slice.specs.LongTerms.{long_terms};
 ghost use Rattle.mv_slice.specs.Picture.{own_set, references, picture};
@@ -18,7 +18,8 @@ use crate::inter_layer::{SliceInterLayer, num_active};
 use crate::long_terms::{LongTerm, LongTerms};
 use crate::picture::{SlicePicture, SliceReferences};
 use crate::prediction::SlicePrediction;
-use mv_common::{Delta, ShortArgs, ShortSet, coded_set};
+use mv_fields::coded_set;
+use mv_short_sets::{Delta, ShortArgs, ShortSet};
 use std::alloc::{AllocError, Global};
 
 fn num_set(flags: &[u8]) -> usize
@@ -87,7 +88,7 @@ fn num_short_used_of(
             &ShortArgs {
                 idx: num,
                 num,
-                earlier: &ctx.short_sets,
+                earlier: ctx.short_sets,
             },
         ),
         None => num_used_of_sps(alloc, ctx, idx.unwrap_or(0)),
@@ -192,7 +193,7 @@ pub(crate) fn has_temporal_mvp(references: &Option<SliceReferences>) -> bool
     }
 }
 
-/// One of the flags of the in-loop offset is 1.
+/// One of the flags of sample adaptive offset is 1.
 pub(crate) fn has_sao(prediction: &SlicePrediction) -> bool
     ensures { result ≡ has_sao prediction.now }
 {

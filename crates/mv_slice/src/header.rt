@@ -1,20 +1,24 @@
 //! The header of a slice segment at the head of its payload: read, and written.
 
-ghost use Rattle.std.specs.Prelude.{◌≡◌, ◌≤◌, ◌<◌, ◌*◌, ◌%◌, ◌^◌, Ok, Err, length, IfOk, OnOk, OnErr};
+ghost use Rattle.std.specs.Prelude.{◌≡◌, ◌≤◌, ◌<◌, ◌*◌, ◌%◌, ◌^◌, ◌++◌, [], Ok, Err, length, IfOk, OnOk, OnErr};
+ghost use Rattle.mv_rules.specs.declared.rule.Rule.TheVariants.{SliceSyntax};
 ghost use Rattle.mv_syntax.specs.Bits.{short, byte_bits, trailing_bits};
 ghost use Rattle.mv_syntax.specs.Cursor.{place};
-ghost use Rattle.mv_syntax.specs.Table.{Valid, bits_of, read, behind};
-ghost use Rattle.mv_syntax.specs.Answers.{Fills, AnswersHeader, AnswersHeaderBy};
+ghost use Rattle.mv_syntax.specs.Table.{Valid, Cut, bits_of, behind};
+ghost use Rattle.mv_syntax.specs.Lines.{lines as lines_of, text_of};
+ghost use Rattle.mv_syntax.specs.Printed.{lines};
+ghost use Rattle.mv_fields.specs.Reading.{ReadsBy, ReadsWhole};
+ghost use Rattle.mv_fields.specs.Output.{IsText, text_in};
 ghost use Rattle.mv_slice.specs.Context.{Fits};
-ghost use Rattle.mv_slice.specs.Faults.{means, syntax_rule, refused_rule};
+ghost use Rattle.mv_slice.specs.Header.{BeginsWith, ReadsStart};
 ghost use Rattle.mv_slice.specs.Slice.{slice_header};
 
 use crate::context::SliceContext;
-use crate::fault::SliceFault;
-use crate::slice::{SliceHead, fields_of, put_fields};
-use mv_bits::{BitReader, BitWriter, NoBits};
-use mv_defs::UnitHead;
-use mv_io::{ReadFault, Rule};
+use crate::slice::{SliceHead, fields_of, print_fields};
+use mv_bits::{BitReader, NoBits};
+use mv_fields::{Fault, Printer};
+use mv_rules::{ReadFault, Rule};
+use mv_units::UnitHead;
 use std::alloc::{AllocError, Global};
 
 /// A header that was read.
@@ -28,7 +32,7 @@ pub struct SliceRead {
 /// Takes the alignment, byte_alignment() (7.3.2.12): a one bit, and zeros up to the end of the byte.
 fn take_alignment(bits: &mut BitReader) -> Result<(), NoBits>
     requires within { length bits.old.left ≤ bits.old.total }
-    requires few { bits.old.total < 2 ^ 64 }
+    requires few { place bits.old < 2 ^ 64 }
     requires bytes { bits.old.total % 8 ≡ 0 }
     ensures there { OnOk result (behind (trailing_bits (place bits.old)) bits.old.left ≡ Ok bits.new.left) }
     ensures total { OnOk result (bits.new.total ≡ bits.old.total) }
@@ -50,12 +54,11 @@ fn header_of(
     bits: &mut BitReader,
     ctx: &SliceContext,
     nal_unit_type: u8,
-) -> Result<SliceHead, SliceFault>
+) -> Result<SliceHead, Fault<Rule>>
     requires fits { Fits ctx.now }
     requires first { bits.old.total ≡ length bits.old.left }
-    requires few { bits.old.total < 2 ^ 64 }
     requires bytes { bits.old.total % 8 ≡ 0 }
-    ensures fills { Fills (λ v. v) means bits.old bits.new result (read (slice_header ctx.now nal_unit_type) bits.old.left) }
+    ensures fills { ReadsBy (slice_header ctx.now nal_unit_type) bits.old bits.new result }
     ensures whole { OnOk result (length bits.new.left % 8 ≡ 0) }
 {
     let head = fields_of(alloc, bits, ctx, nal_unit_type)?;
@@ -63,27 +66,31 @@ fn header_of(
     Ok(head)
 }
 
-/// How many bytes of a payload are looked at, at most: as many as a u32 counts, which is far more than any header has.
-const MOST_BYTES: usize = 0xFFFF_FFFF;
-
-/// Reads the header at the head of a payload that is not too long.
-fn read_of(
+/// Reads the header of a slice segment from the first bytes of the segment's payload (7.3.6.1, F.7.3.6.1). What is answered is so
+/// whatever bytes follow.
+///
+/// `None` where no header stands there and no rule is broken: it goes on behind these bytes, or never comes. `Refused` with the
+/// first rule that a field breaks, all fields before it being read: `CrossLayerBla` where cross_layer_bla_flag is 1, `SliceSyntax`
+/// where a field is past its limit. `Memory` where memory runs out.
+pub fn read_slice_start(
     alloc: Global,
     ctx: &SliceContext,
-    nal_unit_type: u8,
-    payload: &[u8],
-) -> Result<SliceRead, SliceFault>
+    head: UnitHead,
+    bytes: &[u8],
+) -> Result<Option<SliceRead>, ReadFault>
     requires fits { Fits ctx.now }
-    requires few { length payload.now < 2 ^ 32 }
-    ensures { AnswersHeader (λ s. s.head) (λ s. s.bytes) means (slice_header ctx.now nal_unit_type) (byte_bits payload.now) result }
+    requires layer { head.layer ≡ ctx.now.layer }
+    ensures { ReadsStart (slice_header ctx.now head.kind) (byte_bits bytes.now) result }
 {
-    let mut bits = BitReader::new(payload);
-    match header_of(alloc, &mut bits, ctx, nal_unit_type) {
-        Ok(head) => Ok(SliceRead {
-            head,
+    let mut bits = BitReader::new(bytes);
+    match header_of(alloc, &mut bits, ctx, head.kind) {
+        Ok(header) => Ok(Some(SliceRead {
+            head: header,
             bytes: (bits.place() / 8) as u32,
-        }),
-        Err(fault) => Err(fault),
+        })),
+        Err(Fault::NoBits) => Ok(None),
+        Err(Fault::Breaks(rule)) => Err(ReadFault::Refused(rule)),
+        Err(Fault::Memory) => Err(ReadFault::Memory),
     }
 }
 
@@ -100,17 +107,12 @@ pub fn read_slice(
 ) -> Result<SliceRead, ReadFault>
     requires fits { Fits ctx.now }
     requires layer { head.layer ≡ ctx.now.layer }
-    ensures { AnswersHeaderBy (λ s. s.head) (λ s. s.bytes) refused_rule syntax_rule (slice_header ctx.now head.kind) (byte_bits payload.now) result }
+    ensures { ReadsWhole (BeginsWith (slice_header ctx.now head.kind) (byte_bits payload.now)) (Cut (slice_header ctx.now head.kind) (byte_bits payload.now)) SliceSyntax result }
 {
-    let most = payload.len().min(MOST_BYTES);
-    match read_of(alloc, ctx, head.kind, &payload[..most]) {
-        Ok(read) => Ok(read),
-        Err(SliceFault::Breaks(rule)) => Err(ReadFault::Refused(rule)),
-        Err(SliceFault::NoBits) if most == payload.len() => {
-            Err(ReadFault::Refused(Rule::SliceSyntax))
-        }
-        // no header is so long
-        Err(SliceFault::NoBits | SliceFault::Memory) => Err(ReadFault::Memory),
+    match read_slice_start(alloc, ctx, head, payload) {
+        Ok(Some(read)) => Ok(read),
+        Ok(None) => Err(ReadFault::Refused(Rule::SliceSyntax)),
+        Err(fault) => Err(fault),
     }
 }
 
@@ -129,8 +131,28 @@ pub fn write_slice(
     requires valid { Valid (slice_header ctx.now head.kind) value.now }
     ensures { IfOk result (λ bytes. byte_bits bytes.items ≡ bits_of (slice_header ctx.now head.kind) value.now) }
 {
-    let mut out = BitWriter::new(alloc);
-    put_fields(alloc, &mut out, ctx, head.kind, value)?;
-    out.trailing()?;
+    let mut out = Printer::bits(alloc);
+    print_fields(alloc, &mut out, ctx, head.kind, value)?;
+    out.end(&None)?;
     Ok(out.into_bytes())
+}
+
+/// Appends the lines of a slice segment header to a text: one for each coded field, in coded order.
+///
+/// `AllocError` where memory runs out.
+#[tactic(auto, unfolding(crate::specs::Slice::slice_header))]
+pub fn show_slice(
+    alloc: Global,
+    out: &mut Printer,
+    ctx: &SliceContext,
+    head: UnitHead,
+    value: &SliceHead,
+) -> Result<(), AllocError>
+    requires fits { Fits ctx.now }
+    requires layer { head.layer ≡ ctx.now.layer }
+    requires text { IsText out.old }
+    requires valid { Valid (slice_header ctx.now head.kind) value.now }
+    ensures { OnOk result (out.new ≡ lines (text_in out.old ++ text_of (lines_of (slice_header ctx.now head.kind) value.now)) []) }
+{
+    print_fields(alloc, out, ctx, head.kind, value)
 }

@@ -1,20 +1,21 @@
+//! The inter-layer fields of a slice segment header, and the layers that its picture refers to.
+
 ghost use Rattle.std.specs.Prelude.{◌≡◌, ◌≤◌, nat_le, OnOk, option_map};
-ghost use Rattle.mv_syntax.specs.Table.{u, when, Valid, read, put};
+ghost use Rattle.mv_syntax.specs.Table.{u, named, when, Valid};
 ghost use Rattle.mv_syntax.specs.Words.{◌!◌∶◌, or_zero};
-ghost use Rattle.mv_syntax.specs.Answers.{Fills};
+ghost use Rattle.mv_syntax.specs.Printed.{printed};
+ghost use Rattle.mv_rules.specs.declared.rule.Rule.TheVariants.{SliceSyntax};
+ghost use Rattle.mv_fields.specs.Reading.{ReadsBy, ReadsAs};
 ghost use Rattle.mv_slice.specs.Context.{Fits};
-ghost use Rattle.mv_slice.specs.Faults.{means};
 ghost use Rattle.std.specs.List.{list_any};
-ghost use Rattle.mv_slice.specs.Numbers.{clog2};
+ghost use Rattle.mv_fields.specs.Widths.{clog2};
 ghost use Rattle.mv_slice.specs.Layers.{num_active_ref_layer_pics, lacks_layers};
 ghost use Rattle.mv_slice.specs.InterLayer.{is_bad_number, is_bad_layer, active_layer, active_layer_numbers, inter_layer};
 
 use crate::context::SliceContext;
-use crate::fault::SliceFault;
-use crate::fields::clog2_of;
-use mv_bits::{BitReader, BitWriter};
-use mv_common::{coded_set, put_u8, put_u8_if, u8_if, u8_of};
-use mv_io::Rule;
+use mv_bits::BitReader;
+use mv_fields::{Fault, Printer, clog2, coded_set, u8_if, u8_of};
+use mv_rules::Rule;
 use std::alloc::{AllocError, Global};
 use std::marker::Model;
 
@@ -92,16 +93,16 @@ fn number_if(
     bits: &mut BitReader,
     ctx: &SliceContext,
     present: bool,
-) -> Result<Option<u8>, SliceFault>
+) -> Result<Option<u8>, Fault<Rule>>
     requires { Fits ctx.now }
-    ensures { Fills (λ v. v) means bits.old bits.new result (read (when present (u (clog2 ctx.now.directs) ! 52 ∶ is_bad_number ctx.now)) bits.old.left) }
+    ensures { ReadsBy (when present (u (clog2 ctx.now.directs) ! SliceSyntax ∶ is_bad_number ctx.now)) bits.old bits.new result }
 {
     if !present {
         return Ok(None);
     }
-    let n = u8_of(bits, clog2_of(u32::from(ctx.directs), 6))?;
+    let n = u8_of(bits, clog2(u32::from(ctx.directs), 6))?;
     if is_bad_number(ctx, n) {
-        return Err(SliceFault::Breaks(Rule::SliceSyntax));
+        return Err(Fault::Breaks(Rule::SliceSyntax));
     }
     Ok(Some(n))
 }
@@ -112,13 +113,13 @@ fn active_layer_of(
     ctx: &SliceContext,
     i: usize,
     before: &[u8],
-) -> Result<u8, SliceFault>
+) -> Result<u8, Fault<Rule>>
     requires { Fits ctx.now }
-    ensures { Fills (λ v. v) means bits.old bits.new result (read (active_layer ctx.now i before.now) bits.old.left) }
+    ensures { ReadsBy (active_layer ctx.now i before.now) bits.old bits.new result }
 {
-    let n = u8_of(bits, clog2_of(u32::from(ctx.directs), 6))?;
+    let n = u8_of(bits, clog2(u32::from(ctx.directs), 6))?;
     if n >= ctx.directs || any_at_least(before, n) {
-        return Err(SliceFault::Breaks(Rule::SliceSyntax));
+        return Err(Fault::Breaks(Rule::SliceSyntax));
     }
     Ok(n)
 }
@@ -129,9 +130,9 @@ fn active_layers_of(
     bits: &mut BitReader,
     ctx: &SliceContext,
     n: usize,
-) -> Result<Vec<u8>, SliceFault>
+) -> Result<Vec<u8>, Fault<Rule>>
     requires { Fits ctx.now }
-    ensures { Fills (λ v. v.items) means bits.old bits.new result (read (active_layer_numbers ctx.now n) bits.old.left) }
+    ensures { ReadsAs (λ v. v.items) (active_layer_numbers ctx.now n) bits.old bits.new result }
 {
     let mut all = Vec::new(alloc);
     for i in 0..n {
@@ -147,9 +148,9 @@ fn active_layers_if(
     ctx: &SliceContext,
     present: bool,
     n: usize,
-) -> Result<Option<Vec<u8>>, SliceFault>
+) -> Result<Option<Vec<u8>>, Fault<Rule>>
     requires { Fits ctx.now }
-    ensures { Fills (λ o. option_map (λ v. v.items) o) means bits.old bits.new result (read (when present (active_layer_numbers ctx.now n)) bits.old.left) }
+    ensures { ReadsAs (λ o. option_map (λ v. v.items) o) (when present (active_layer_numbers ctx.now n)) bits.old bits.new result }
 {
     if !present {
         return Ok(None);
@@ -162,9 +163,9 @@ pub(crate) fn inter_layer_of(
     alloc: Global,
     bits: &mut BitReader,
     ctx: &SliceContext,
-) -> Result<SliceInterLayer, SliceFault>
+) -> Result<SliceInterLayer, Fault<Rule>>
     requires { Fits ctx.now }
-    ensures { Fills (λ v. v) means bits.old bits.new result (read (inter_layer ctx.now) bits.old.left) }
+    ensures { ReadsBy (inter_layer ctx.now) bits.old bits.new result }
 {
     let chosen = ctx.layer > 0 && ctx.default_ref_layers_active_flag != 1 && ctx.directs > 0;
     let inter_layer_pred_enabled_flag = u8_if(bits, chosen, 1)?;
@@ -188,26 +189,30 @@ pub(crate) fn inter_layer_of(
     })
 }
 
-fn put_number_if(
-    out: &mut BitWriter,
+fn print_number_if(
+    out: &mut Printer,
     ctx: &SliceContext,
     present: bool,
     field: Option<u8>,
 ) -> Result<(), AllocError>
     requires fits { Fits ctx.now }
-    requires valid { Valid (when present (u (clog2 ctx.now.directs) ! 52 ∶ is_bad_number ctx.now)) field }
-    ensures { OnOk result (out.new ≡ put (when present (u (clog2 ctx.now.directs) ! 52 ∶ is_bad_number ctx.now)) field out.old) }
+    requires valid { Valid (when present (u (clog2 ctx.now.directs) ! SliceSyntax ∶ is_bad_number ctx.now)) field }
+    ensures { OnOk result (out.new ≡ printed (named "num_inter_layer_ref_pics_minus1" (when present (u (clog2 ctx.now.directs) ! SliceSyntax ∶ is_bad_number ctx.now))) field out.old) }
 {
     match field {
-        Some(field) => out.u(clog2_of(u32::from(ctx.directs), 6), u64::from(field)),
+        Some(field) => out.u8(
+            "num_inter_layer_ref_pics_minus1",
+            clog2(u32::from(ctx.directs), 6),
+            field,
+        ),
         None => Ok(()),
     }
 }
 
-/// Writes the number of an active layer, behind those before it.
+/// Prints the number of an active layer, behind those before it.
 #[tactic(auto, unfolding(crate::specs::InterLayer::active_layer))]
-fn put_active_layer(
-    out: &mut BitWriter,
+fn print_active_layer(
+    out: &mut Printer,
     ctx: &SliceContext,
     i: usize,
     before: &[u8],
@@ -215,30 +220,36 @@ fn put_active_layer(
 ) -> Result<(), AllocError>
     requires fits { Fits ctx.now }
     requires valid { Valid (active_layer ctx.now i before.now) field }
-    ensures { OnOk result (out.new ≡ put (active_layer ctx.now i before.now) field out.old) }
+    ensures { OnOk result (out.new ≡ printed (active_layer ctx.now i before.now) field out.old) }
 {
-    put_u8(out, clog2_of(u32::from(ctx.directs), 6), field)
+    out.u8(
+        "inter_layer_pred_layer_idc",
+        clog2(u32::from(ctx.directs), 6),
+        field,
+    )
 }
 
-#[tactic(auto, using(mv_syntax::proofs::LoopLaws::put_item_steps), unfolding(crate::specs::InterLayer::active_layer_numbers))]
-fn put_active_layers(
-    out: &mut BitWriter,
+#[tactic(auto, using(mv_syntax::proofs::PrintingLoops::print_item_steps), unfolding(crate::specs::InterLayer::active_layer_numbers))]
+fn print_active_layers(
+    out: &mut Printer,
     ctx: &SliceContext,
     n: usize,
     all: &[u8],
 ) -> Result<(), AllocError>
     requires fits { Fits ctx.now }
     requires valid { Valid (active_layer_numbers ctx.now n) all.now }
-    ensures { OnOk result (out.new ≡ put (active_layer_numbers ctx.now n) all.now out.old) }
+    ensures { OnOk result (out.new ≡ printed (active_layer_numbers ctx.now n) all.now out.old) }
 {
     for i in 0..all.len() {
-        put_active_layer(out, ctx, i, &all[..i], all[i])?;
+        let outer = out.open(i as u64)?;
+        print_active_layer(out, ctx, i, &all[..i], all[i])?;
+        out.close(outer);
     }
     Ok(())
 }
 
-fn put_active_layers_if(
-    out: &mut BitWriter,
+fn print_active_layers_if(
+    out: &mut Printer,
     ctx: &SliceContext,
     present: bool,
     n: usize,
@@ -246,23 +257,23 @@ fn put_active_layers_if(
 ) -> Result<(), AllocError>
     requires fits { Fits ctx.now }
     requires valid { Valid (when present (active_layer_numbers ctx.now n)) (option_map (λ v. v.items) all.now) }
-    ensures { OnOk result (out.new ≡ put (when present (active_layer_numbers ctx.now n)) (option_map (λ v. v.items) all.now) out.old) }
+    ensures { OnOk result (out.new ≡ printed (when present (active_layer_numbers ctx.now n)) (option_map (λ v. v.items) all.now) out.old) }
 {
     match all {
-        Some(all) => put_active_layers(out, ctx, n, all),
+        Some(all) => print_active_layers(out, ctx, n, all),
         None => Ok(()),
     }
 }
 
 #[tactic(auto, unfolding(crate::specs::InterLayer::inter_layer))]
-pub(crate) fn put_inter_layer(
-    out: &mut BitWriter,
+pub(crate) fn print_inter_layer(
+    out: &mut Printer,
     ctx: &SliceContext,
     v: &SliceInterLayer,
 ) -> Result<(), AllocError>
     requires fits { Fits ctx.now }
     requires valid { Valid (inter_layer ctx.now) v.now }
-    ensures { OnOk result (out.new ≡ put (inter_layer ctx.now) v.now out.old) }
+    ensures { OnOk result (out.new ≡ printed (inter_layer ctx.now) v.now out.old) }
 {
     let chosen = ctx.layer > 0 && ctx.default_ref_layers_active_flag != 1 && ctx.directs > 0;
     let several = coded_set(v.inter_layer_pred_enabled_flag) && ctx.directs > 1;
@@ -272,12 +283,16 @@ pub(crate) fn put_inter_layer(
         v.num_inter_layer_ref_pics_minus1,
     );
     let named = several && active != usize::from(ctx.directs);
-    put_u8_if(out, chosen, 1, v.inter_layer_pred_enabled_flag)?;
-    put_number_if(
+    out.flag_if(
+        chosen,
+        "inter_layer_pred_enabled_flag",
+        v.inter_layer_pred_enabled_flag,
+    )?;
+    print_number_if(
         out,
         ctx,
         several && ctx.max_one_active_ref_layer_flag != 1,
         v.num_inter_layer_ref_pics_minus1,
     )?;
-    put_active_layers_if(out, ctx, named, active, &v.inter_layer_pred_layer_idc)
+    print_active_layers_if(out, ctx, named, active, &v.inter_layer_pred_layer_idc)
 }

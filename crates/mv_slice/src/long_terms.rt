@@ -1,17 +1,19 @@
+//! The long-term reference pictures of a slice segment header.
+
 ghost use Rattle.std.specs.Prelude.{◌≡◌, OnOk};
-ghost use Rattle.mv_syntax.specs.Table.{when, Valid, read, put};
-ghost use Rattle.mv_syntax.specs.Answers.{Fills};
+ghost use Rattle.mv_syntax.specs.Table.{when, Valid};
+ghost use Rattle.mv_syntax.specs.Printed.{printed};
+ghost use Rattle.mv_fields.specs.Reading.{ReadsBy, ReadsAs};
 ghost use Rattle.mv_slice.specs.Context.{Fits};
-ghost use Rattle.mv_slice.specs.Faults.{means};
 ghost use Rattle.mv_slice.specs.LongTerms.{long_term, entries, long_terms};
 
 use crate::context::SliceContext;
-use crate::fault::SliceFault;
-use crate::fields::{
-    clog2_of, or_zero, put_u8_below_if, put_ue_within_if, u8_below_if, ue_within, ue_within_if,
+use mv_bits::BitReader;
+use mv_fields::{
+    Fault, Printer, clog2, or_zero, u8_below_if, u8_if, u8_of, u16_if, ue_if, ue_within,
+    ue_within_if,
 };
-use mv_bits::{BitReader, BitWriter};
-use mv_common::{put_u8, put_u8_if, put_u16_if, put_ue, put_ue_if, u8_if, u8_of, u16_if, ue_if};
+use mv_rules::Rule;
 use std::alloc::{AllocError, Global};
 use std::marker::Model;
 
@@ -52,16 +54,17 @@ fn long_term_of(
     ctx: &SliceContext,
     num_long_term_sps: u32,
     i: u32,
-) -> Result<LongTerm, SliceFault>
+) -> Result<LongTerm, Fault<Rule>>
     requires { Fits ctx.now }
-    ensures { Fills (λ v. v) means bits.old bits.new result (read (long_term ctx.now num_long_term_sps i) bits.old.left) }
+    ensures { ReadsBy (long_term ctx.now num_long_term_sps i) bits.old bits.new result }
 {
     let listed = i < num_long_term_sps;
     let candidates = ctx.num_long_term_ref_pics_sps;
     let lt_idx_sps = u8_below_if(
         bits,
         listed && candidates > 1,
-        clog2_of(candidates, 5),
+        clog2(candidates, 5),
+        Rule::SliceSyntax,
         candidates,
     )?;
     let poc_lsb_lt = u16_if(bits, !listed, ctx.lsb_bits)?;
@@ -84,9 +87,9 @@ fn entries_of(
     ctx: &SliceContext,
     num_long_term_sps: u32,
     n: u32,
-) -> Result<Vec<LongTerm>, SliceFault>
+) -> Result<Vec<LongTerm>, Fault<Rule>>
     requires { Fits ctx.now }
-    ensures { Fills (λ v. v.items) means bits.old bits.new result (read (entries ctx.now num_long_term_sps n) bits.old.left) }
+    ensures { ReadsAs (λ v. v.items) (entries ctx.now num_long_term_sps n) bits.old bits.new result }
 {
     let mut all = Vec::new(alloc);
     for i in 0..n {
@@ -100,12 +103,17 @@ fn long_terms_of(
     alloc: Global,
     bits: &mut BitReader,
     ctx: &SliceContext,
-) -> Result<LongTerms, SliceFault>
+) -> Result<LongTerms, Fault<Rule>>
     requires { Fits ctx.now }
-    ensures { Fills (λ v. v) means bits.old bits.new result (read (long_terms ctx.now) bits.old.left) }
+    ensures { ReadsBy (long_terms ctx.now) bits.old bits.new result }
 {
-    let num_long_term_sps = ue_within_if(bits, ctx.num_long_term_ref_pics_sps > 0, 16)?;
-    let num_long_term_pics = ue_within(bits, 16)?;
+    let num_long_term_sps = ue_within_if(
+        bits,
+        ctx.num_long_term_ref_pics_sps > 0,
+        Rule::SliceSyntax,
+        16,
+    )?;
+    let num_long_term_pics = ue_within(bits, Rule::SliceSyntax, 16)?;
     let listed = or_zero(num_long_term_sps);
     let entries = entries_of(alloc, bits, ctx, listed, listed + num_long_term_pics)?;
     Ok(LongTerms {
@@ -120,9 +128,9 @@ pub(crate) fn long_terms_if(
     bits: &mut BitReader,
     ctx: &SliceContext,
     present: bool,
-) -> Result<Option<LongTerms>, SliceFault>
+) -> Result<Option<LongTerms>, Fault<Rule>>
     requires { Fits ctx.now }
-    ensures { Fills (λ v. v) means bits.old bits.new result (read (when present (long_terms ctx.now)) bits.old.left) }
+    ensures { ReadsBy (when present (long_terms ctx.now)) bits.old bits.new result }
 {
     if !present {
         return Ok(None);
@@ -131,8 +139,8 @@ pub(crate) fn long_terms_if(
 }
 
 #[tactic(auto, unfolding(crate::specs::LongTerms::long_term))]
-fn put_long_term(
-    out: &mut BitWriter,
+fn print_long_term(
+    out: &mut Printer,
     ctx: &SliceContext,
     num_long_term_sps: u32,
     i: usize,
@@ -140,30 +148,35 @@ fn put_long_term(
 ) -> Result<(), AllocError>
     requires fits { Fits ctx.now }
     requires valid { Valid (long_term ctx.now num_long_term_sps i) v }
-    ensures { OnOk result (out.new ≡ put (long_term ctx.now num_long_term_sps i) v out.old) }
+    ensures { OnOk result (out.new ≡ printed (long_term ctx.now num_long_term_sps i) v out.old) }
 {
     let listed = (i as u64) < u64::from(num_long_term_sps);
     let candidates = ctx.num_long_term_ref_pics_sps;
-    put_u8_below_if(
-        out,
+    out.u8_below_if(
         listed && candidates > 1,
-        clog2_of(candidates, 5),
+        "lt_idx_sps",
+        clog2(candidates, 5),
+        Rule::SliceSyntax,
         candidates,
         v.lt_idx_sps,
     )?;
-    put_u16_if(out, !listed, ctx.lsb_bits, v.poc_lsb_lt)?;
-    put_u8_if(out, !listed, 1, v.used_by_curr_pic_lt_flag)?;
-    put_u8(out, 1, v.delta_poc_msb_present_flag)?;
-    put_ue_if(
-        out,
+    out.u16_if(!listed, "poc_lsb_lt", ctx.lsb_bits, v.poc_lsb_lt)?;
+    out.flag_if(
+        !listed,
+        "used_by_curr_pic_lt_flag",
+        v.used_by_curr_pic_lt_flag,
+    )?;
+    out.flag("delta_poc_msb_present_flag", v.delta_poc_msb_present_flag)?;
+    out.ue_if(
         v.delta_poc_msb_present_flag == 1,
+        "delta_poc_msb_cycle_lt",
         v.delta_poc_msb_cycle_lt,
     )
 }
 
-#[tactic(auto, using(mv_syntax::proofs::LoopLaws::put_item_steps), unfolding(crate::specs::LongTerms::entries))]
-fn put_entries(
-    out: &mut BitWriter,
+#[tactic(auto, using(mv_syntax::proofs::PrintingLoops::print_item_steps), unfolding(crate::specs::LongTerms::entries))]
+fn print_entries(
+    out: &mut Printer,
     ctx: &SliceContext,
     num_long_term_sps: u32,
     n: u32,
@@ -171,43 +184,46 @@ fn put_entries(
 ) -> Result<(), AllocError>
     requires fits { Fits ctx.now }
     requires valid { Valid (entries ctx.now num_long_term_sps n) all.now }
-    ensures { OnOk result (out.new ≡ put (entries ctx.now num_long_term_sps n) all.now out.old) }
+    ensures { OnOk result (out.new ≡ printed (entries ctx.now num_long_term_sps n) all.now out.old) }
 {
     for i in 0..all.len() {
-        put_long_term(out, ctx, num_long_term_sps, i, all[i])?;
+        let outer = out.open(i as u64)?;
+        print_long_term(out, ctx, num_long_term_sps, i, all[i])?;
+        out.close(outer);
     }
     Ok(())
 }
 
 #[tactic(auto, unfolding(crate::specs::LongTerms::long_terms))]
-fn put_long_terms(out: &mut BitWriter, ctx: &SliceContext, v: &LongTerms) -> Result<(), AllocError>
+fn print_long_terms(out: &mut Printer, ctx: &SliceContext, v: &LongTerms) -> Result<(), AllocError>
     requires fits { Fits ctx.now }
     requires valid { Valid (long_terms ctx.now) v.now }
-    ensures { OnOk result (out.new ≡ put (long_terms ctx.now) v.now out.old) }
+    ensures { OnOk result (out.new ≡ printed (long_terms ctx.now) v.now out.old) }
 {
     let listed = or_zero(v.num_long_term_sps);
-    put_ue_within_if(
-        out,
+    out.ue_within_if(
         ctx.num_long_term_ref_pics_sps > 0,
+        "num_long_term_sps",
+        Rule::SliceSyntax,
         16,
         v.num_long_term_sps,
     )?;
-    put_ue(out, v.num_long_term_pics)?;
-    put_entries(out, ctx, listed, listed + v.num_long_term_pics, &v.entries)
+    out.ue("num_long_term_pics", v.num_long_term_pics)?;
+    print_entries(out, ctx, listed, listed + v.num_long_term_pics, &v.entries)
 }
 
-pub(crate) fn put_long_terms_if(
-    out: &mut BitWriter,
+pub(crate) fn print_long_terms_if(
+    out: &mut Printer,
     ctx: &SliceContext,
     present: bool,
     v: &Option<LongTerms>,
 ) -> Result<(), AllocError>
     requires fits { Fits ctx.now }
     requires valid { Valid (when present (long_terms ctx.now)) v.now }
-    ensures { OnOk result (out.new ≡ put (when present (long_terms ctx.now)) v.now out.old) }
+    ensures { OnOk result (out.new ≡ printed (when present (long_terms ctx.now)) v.now out.old) }
 {
     match v {
-        Some(v) => put_long_terms(out, ctx, v),
+        Some(v) => print_long_terms(out, ctx, v),
         None => Ok(()),
     }
 }

@@ -1,16 +1,17 @@
+//! The first fields of a slice segment header, and its address.
+
 ghost use Rattle.std.specs.Prelude.{◌≡◌, ◌≢◌, ◌≤◌, OnOk, IfOk, IfErr};
-ghost use Rattle.mv_syntax.specs.Table.{Valid, read, put};
-ghost use Rattle.mv_syntax.specs.Answers.{Fills};
+ghost use Rattle.mv_syntax.specs.Table.{Valid};
+ghost use Rattle.mv_syntax.specs.Printed.{printed};
+ghost use Rattle.mv_fields.specs.Reading.{ReadsBy};
 ghost use Rattle.mv_slice.specs.Context.{Fits};
-ghost use Rattle.mv_slice.specs.Faults.{means};
-ghost use Rattle.mv_slice.specs.declared.fault.SliceFault.TheVariants.{Memory};
+ghost use Rattle.mv_fields.specs.declared.fault.Fault.TheVariants.{Memory};
 ghost use Rattle.mv_slice.specs.Opening.{opening, address};
 
 use crate::context::SliceContext;
-use crate::fault::SliceFault;
-use crate::fields::{clog2_of, ue_within};
-use mv_bits::{BitReader, BitWriter};
-use mv_common::{put_u8, put_u8_if, put_u32_if, put_ue, u8_if, u8_of, u32_if};
+use mv_bits::BitReader;
+use mv_fields::{Fault, Printer, clog2, u8_if, u8_of, u32_if, ue_within};
+use mv_rules::Rule;
 use std::alloc::AllocError;
 
 /// The first fields of a slice segment header, up to the id of the picture parameter set.
@@ -32,14 +33,14 @@ pub struct SliceAddress {
 pub(crate) fn opening_of(
     bits: &mut BitReader,
     nal_unit_type: u8,
-) -> Result<SliceOpening, SliceFault>
-    ensures fills { Fills (λ v. v) means bits.old bits.new result (read (opening nal_unit_type) bits.old.left) }
+) -> Result<SliceOpening, Fault<Rule>>
+    ensures fills { ReadsBy (opening nal_unit_type) bits.old bits.new result }
     ensures id { IfOk result (λ v. v.slice_pic_parameter_set_id ≤ 63) }
     ensures no_memory { IfErr result (λ fault. fault ≢ Memory) }
 {
     let first_slice_segment_in_pic_flag = u8_of(bits, 1)?;
     let no_output_of_prior_pics_flag = u8_if(bits, 16 <= nal_unit_type && nal_unit_type <= 21, 1)?;
-    let slice_pic_parameter_set_id = ue_within(bits, 63)?;
+    let slice_pic_parameter_set_id = ue_within(bits, Rule::SliceSyntax, 63)?;
     Ok(SliceOpening {
         first_slice_segment_in_pic_flag,
         no_output_of_prior_pics_flag,
@@ -48,22 +49,24 @@ pub(crate) fn opening_of(
 }
 
 #[tactic(auto, unfolding(crate::specs::Opening::opening))]
-pub(crate) fn put_opening(
-    out: &mut BitWriter,
+pub(crate) fn print_opening(
+    out: &mut Printer,
     nal_unit_type: u8,
     v: SliceOpening,
 ) -> Result<(), AllocError>
     requires { Valid (opening nal_unit_type) v }
-    ensures { OnOk result (out.new ≡ put (opening nal_unit_type) v out.old) }
+    ensures { OnOk result (out.new ≡ printed (opening nal_unit_type) v out.old) }
 {
-    put_u8(out, 1, v.first_slice_segment_in_pic_flag)?;
-    put_u8_if(
-        out,
+    out.flag(
+        "first_slice_segment_in_pic_flag",
+        v.first_slice_segment_in_pic_flag,
+    )?;
+    out.flag_if(
         16 <= nal_unit_type && nal_unit_type <= 21,
-        1,
+        "no_output_of_prior_pics_flag",
         v.no_output_of_prior_pics_flag,
     )?;
-    put_ue(out, v.slice_pic_parameter_set_id)
+    out.ue("slice_pic_parameter_set_id", v.slice_pic_parameter_set_id)
 }
 
 #[tactic(auto, unfolding(crate::specs::Opening::address))]
@@ -71,16 +74,16 @@ pub(crate) fn address_of(
     bits: &mut BitReader,
     ctx: &SliceContext,
     first: bool,
-) -> Result<SliceAddress, SliceFault>
+) -> Result<SliceAddress, Fault<Rule>>
     requires { Fits ctx.now }
-    ensures { Fills (λ v. v) means bits.old bits.new result (read (address ctx.now first) bits.old.left) }
+    ensures { ReadsBy (address ctx.now first) bits.old bits.new result }
 {
     let dependent_slice_segment_flag = u8_if(
         bits,
         !first && ctx.dependent_slice_segments_enabled_flag == 1,
         1,
     )?;
-    let slice_segment_address = u32_if(bits, !first, clog2_of(ctx.ctbs, 22))?;
+    let slice_segment_address = u32_if(bits, !first, clog2(ctx.ctbs, 22))?;
     Ok(SliceAddress {
         dependent_slice_segment_flag,
         slice_segment_address,
@@ -88,21 +91,25 @@ pub(crate) fn address_of(
 }
 
 #[tactic(auto, unfolding(crate::specs::Opening::address))]
-pub(crate) fn put_address(
-    out: &mut BitWriter,
+pub(crate) fn print_address(
+    out: &mut Printer,
     ctx: &SliceContext,
     first: bool,
     v: SliceAddress,
 ) -> Result<(), AllocError>
     requires fits { Fits ctx.now }
     requires valid { Valid (address ctx.now first) v }
-    ensures { OnOk result (out.new ≡ put (address ctx.now first) v out.old) }
+    ensures { OnOk result (out.new ≡ printed (address ctx.now first) v out.old) }
 {
-    put_u8_if(
-        out,
+    out.flag_if(
         !first && ctx.dependent_slice_segments_enabled_flag == 1,
-        1,
+        "dependent_slice_segment_flag",
         v.dependent_slice_segment_flag,
     )?;
-    put_u32_if(out, !first, clog2_of(ctx.ctbs, 22), v.slice_segment_address)
+    out.u32_if(
+        !first,
+        "slice_segment_address",
+        clog2(ctx.ctbs, 22),
+        v.slice_segment_address,
+    )
 }

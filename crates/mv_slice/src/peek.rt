@@ -7,8 +7,8 @@ ghost use Rattle.mv_slice.specs.Peek.{Peeks};
 
 use crate::opening::opening_of;
 use mv_bits::BitReader;
-use mv_defs::UnitHead;
-use mv_io::Rule;
+use mv_rules::Rule;
+use mv_units::UnitHead;
 
 /// What tells the picture of a slice segment, and the picture parameter set that its header is read with.
 #[derive(Clone, Copy, Debug, PartialEq, Eq)]

@@ -1,25 +1,26 @@
+//! A slice segment header in parts: read, and printed.
+
 ghost use Rattle.std.specs.Prelude.{◌≡◌, OnOk};
-ghost use Rattle.mv_syntax.specs.Table.{when, Valid, read, put};
-ghost use Rattle.mv_syntax.specs.Answers.{Fills};
+ghost use Rattle.mv_syntax.specs.Table.{when, Valid};
+ghost use Rattle.mv_syntax.specs.Printed.{printed};
+ghost use Rattle.mv_fields.specs.Reading.{ReadsBy};
 ghost use Rattle.mv_slice.specs.Context.{Fits};
-ghost use Rattle.mv_slice.specs.Faults.{means};
 ghost use Rattle.mv_slice.specs.Slice.{full, slice_fields};
 
 use crate::context::SliceContext;
 use crate::derived::{has_sao, has_temporal_mvp, num_pic_total_curr_of};
-use crate::ending::{SliceEnding, ending_of, put_ending};
-use crate::fault::SliceFault;
-use crate::filters::{SliceFilters, filters_of, put_filters};
-use crate::inter_layer::{SliceInterLayer, inter_layer_of, put_inter_layer};
+use crate::ending::{SliceEnding, ending_of, print_ending};
+use crate::filters::{SliceFilters, filters_of, print_filters};
+use crate::inter_layer::{SliceInterLayer, inter_layer_of, print_inter_layer};
 use crate::opening::{
-    SliceAddress, SliceOpening, address_of, opening_of, put_address, put_opening,
+    SliceAddress, SliceOpening, address_of, opening_of, print_address, print_opening,
 };
-use crate::picture::{SlicePicture, picture_of, put_picture};
-use crate::prediction::{SlicePrediction, prediction_of, put_prediction};
-use mv_bits::{BitReader, BitWriter};
-use mv_common::coded_set;
+use crate::picture::{SlicePicture, picture_of, print_picture};
+use crate::prediction::{SlicePrediction, prediction_of, print_prediction};
+use mv_bits::BitReader;
+use mv_fields::{Fault, Printer, coded_set};
+use mv_rules::Rule;
 use std::alloc::{AllocError, Global};
-use std::marker::Model;
 
 /// The fields that a dependent slice segment takes from the segment before it.
 #[derive(Debug, Drop)]
@@ -28,19 +29,6 @@ pub struct SliceFull {
     pub inter_layer: SliceInterLayer,
     pub prediction: SlicePrediction,
     pub filters: SliceFilters,
-}
-
-impl Model for SliceFull {
-    ghost use Rattle.mv_slice.specs.Slice.{SliceFullValue};
-
-    ghost Value = { SliceFullValue };
-
-    ghost view = { λ s. record {
-      picture = s.picture;
-      inter_layer = s.inter_layer;
-      prediction = s.prediction;
-      filters = s.filters;
-    } };
 }
 
 /// The header of a slice segment (7.3.6.1, F.7.3.6.1): its fields in coded order, in parts.
@@ -53,28 +41,15 @@ pub struct SliceHead {
     pub ending: SliceEnding,
 }
 
-impl Model for SliceHead {
-    ghost use Rattle.mv_slice.specs.Slice.{SliceHeadValue};
-
-    ghost Value = { SliceHeadValue };
-
-    ghost view = { λ s. record {
-      opening = s.opening;
-      address = s.address;
-      full = s.full;
-      ending = s.ending;
-    } };
-}
-
 #[tactic(auto, unfolding(crate::specs::Slice::full))]
 fn full_of(
     alloc: Global,
     bits: &mut BitReader,
     ctx: &SliceContext,
     nal_unit_type: u8,
-) -> Result<SliceFull, SliceFault>
+) -> Result<SliceFull, Fault<Rule>>
     requires { Fits ctx.now }
-    ensures { Fills (λ v. v) means bits.old bits.new result (read (full ctx.now nal_unit_type) bits.old.left) }
+    ensures { ReadsBy (full ctx.now nal_unit_type) bits.old bits.new result }
 {
     let picture = picture_of(alloc, bits, ctx, nal_unit_type)?;
     let inter_layer = inter_layer_of(alloc, bits, ctx)?;
@@ -96,9 +71,9 @@ fn full_if(
     ctx: &SliceContext,
     nal_unit_type: u8,
     present: bool,
-) -> Result<Option<SliceFull>, SliceFault>
+) -> Result<Option<SliceFull>, Fault<Rule>>
     requires { Fits ctx.now }
-    ensures { Fills (λ v. v) means bits.old bits.new result (read (when present (full ctx.now nal_unit_type)) bits.old.left) }
+    ensures { ReadsBy (when present (full ctx.now nal_unit_type)) bits.old bits.new result }
 {
     if !present {
         return Ok(None);
@@ -113,9 +88,9 @@ pub(crate) fn fields_of(
     bits: &mut BitReader,
     ctx: &SliceContext,
     nal_unit_type: u8,
-) -> Result<SliceHead, SliceFault>
+) -> Result<SliceHead, Fault<Rule>>
     requires { Fits ctx.now }
-    ensures { Fills (λ v. v) means bits.old bits.new result (read (slice_fields ctx.now nal_unit_type) bits.old.left) }
+    ensures { ReadsBy (slice_fields ctx.now nal_unit_type) bits.old bits.new result }
 {
     let opening = opening_of(bits, nal_unit_type)?;
     let address = address_of(bits, ctx, opening.first_slice_segment_in_pic_flag == 1)?;
@@ -131,22 +106,22 @@ pub(crate) fn fields_of(
 }
 
 #[tactic(auto, unfolding(crate::specs::Slice::full))]
-fn put_full(
+fn print_full(
     alloc: Global,
-    out: &mut BitWriter,
+    out: &mut Printer,
     ctx: &SliceContext,
     nal_unit_type: u8,
     v: &SliceFull,
 ) -> Result<(), AllocError>
     requires fits { Fits ctx.now }
     requires valid { Valid (full ctx.now nal_unit_type) v.now }
-    ensures { OnOk result (out.new ≡ put (full ctx.now nal_unit_type) v.now out.old) }
+    ensures { OnOk result (out.new ≡ printed (full ctx.now nal_unit_type) v.now out.old) }
 {
     let total = num_pic_total_curr_of(alloc, ctx, nal_unit_type, &v.picture, &v.inter_layer)?;
     let temporal_mvp = has_temporal_mvp(&v.picture.references);
-    put_picture(out, ctx, nal_unit_type, &v.picture)?;
-    put_inter_layer(out, ctx, &v.inter_layer)?;
-    put_prediction(
+    print_picture(out, ctx, nal_unit_type, &v.picture)?;
+    print_inter_layer(out, ctx, &v.inter_layer)?;
+    print_prediction(
         out,
         &v.prediction,
         ctx,
@@ -154,12 +129,12 @@ fn put_full(
         total,
         temporal_mvp,
     )?;
-    put_filters(out, ctx, has_sao(&v.prediction), v.filters)
+    print_filters(out, ctx, has_sao(&v.prediction), v.filters)
 }
 
-fn put_full_if(
+fn print_full_if(
     alloc: Global,
-    out: &mut BitWriter,
+    out: &mut Printer,
     ctx: &SliceContext,
     nal_unit_type: u8,
     present: bool,
@@ -167,31 +142,31 @@ fn put_full_if(
 ) -> Result<(), AllocError>
     requires fits { Fits ctx.now }
     requires valid { Valid (when present (full ctx.now nal_unit_type)) v.now }
-    ensures { OnOk result (out.new ≡ put (when present (full ctx.now nal_unit_type)) v.now out.old) }
+    ensures { OnOk result (out.new ≡ printed (when present (full ctx.now nal_unit_type)) v.now out.old) }
 {
     match v {
-        Some(v) => put_full(alloc, out, ctx, nal_unit_type, v),
+        Some(v) => print_full(alloc, out, ctx, nal_unit_type, v),
         None => Ok(()),
     }
 }
 
-/// Writes the fields of a header, up to its alignment.
+/// Prints the fields of a header, up to its alignment.
 #[tactic(auto, unfolding(crate::specs::Slice::slice_fields))]
-pub(crate) fn put_fields(
+pub(crate) fn print_fields(
     alloc: Global,
-    out: &mut BitWriter,
+    out: &mut Printer,
     ctx: &SliceContext,
     nal_unit_type: u8,
     v: &SliceHead,
 ) -> Result<(), AllocError>
     requires fits { Fits ctx.now }
     requires valid { Valid (slice_fields ctx.now nal_unit_type) v.now }
-    ensures { OnOk result (out.new ≡ put (slice_fields ctx.now nal_unit_type) v.now out.old) }
+    ensures { OnOk result (out.new ≡ printed (slice_fields ctx.now nal_unit_type) v.now out.old) }
 {
-    put_opening(out, nal_unit_type, v.opening)?;
+    print_opening(out, nal_unit_type, v.opening)?;
     let first = v.opening.first_slice_segment_in_pic_flag == 1;
-    put_address(out, ctx, first, v.address)?;
+    print_address(out, ctx, first, v.address)?;
     let whole = !coded_set(v.address.dependent_slice_segment_flag);
-    put_full_if(alloc, out, ctx, nal_unit_type, whole, &v.full)?;
-    put_ending(out, ctx, &v.ending)
+    print_full_if(alloc, out, ctx, nal_unit_type, whole, &v.full)?;
+    print_ending(out, ctx, &v.ending)
 }

@@ -1,15 +1,16 @@
+//! pred_weight_table (7.3.6.3): read, and printed.
+
 ghost use Rattle.std.specs.Prelude.{◌≡◌, OnOk, option_map, [], nat_eq, if◌then◌else◌};
-ghost use Rattle.mv_syntax.specs.Table.{when, Valid, read, put};
+ghost use Rattle.mv_syntax.specs.Table.{when, Valid};
 ghost use Rattle.mv_syntax.specs.Words.{◌otherwise◌};
-ghost use Rattle.mv_syntax.specs.Answers.{Fills};
-ghost use Rattle.mv_slice.specs.Faults.{means};
-ghost use Rattle.mv_slice.specs.Weights.{luma_flag, chroma_flag, chroma_weight, chroma_weights, flag_at, entry_weights, luma_flags, chroma_flags, entry_weights_of_all, list_weights, numbered_list, lists_weights, pred_weight_table};
+ghost use Rattle.mv_syntax.specs.Printed.{printed};
+ghost use Rattle.mv_fields.specs.Reading.{ReadsBy, ReadsAs};
+ghost use Rattle.mv_slice.specs.Weights.{chroma_weight, chroma_weights, flag_at, entry_weights, entry_weights_of_all, list_weights, numbered_list, lists_weights, pred_weight_table};
 
 use crate::active_entries::ActiveEntries;
-use crate::fault::SliceFault;
-use crate::fields::{put_se, put_se_if, se_if};
-use mv_bits::{BitReader, BitWriter};
-use mv_common::{put_u8, put_ue, u8_of};
+use mv_bits::BitReader;
+use mv_fields::{Fault, Printer, se_if, u8s_if, u8s_of};
+use mv_rules::Rule;
 use std::alloc::{AllocError, Global};
 use std::marker::Model;
 
@@ -84,59 +85,9 @@ impl Model for PredWeightTable {
     } };
 }
 
-#[tactic(auto, unfolding(crate::specs::Weights::luma_flag))]
-fn luma_flag_of(bits: &mut BitReader, i: u32) -> Result<u8, SliceFault>
-    ensures { Fills (λ v. v) means bits.old bits.new result (read (luma_flag i) bits.old.left) }
-{
-    Ok(u8_of(bits, 1)?)
-}
-
-#[tactic(auto, using(mv_syntax::proofs::LoopLaws::item_steps), unfolding(crate::specs::Weights::luma_flags))]
-fn luma_flags_of(alloc: Global, bits: &mut BitReader, n: u32) -> Result<Vec<u8>, SliceFault>
-    ensures { Fills (λ v. v.items) means bits.old bits.new result (read (luma_flags n) bits.old.left) }
-{
-    let mut all = Vec::new(alloc);
-    for i in 0..n {
-        all.push(luma_flag_of(bits, i)?)?;
-    }
-    Ok(all)
-}
-
-#[tactic(auto, unfolding(crate::specs::Weights::chroma_flag))]
-fn chroma_flag_of(bits: &mut BitReader, i: u32) -> Result<u8, SliceFault>
-    ensures { Fills (λ v. v) means bits.old bits.new result (read (chroma_flag i) bits.old.left) }
-{
-    Ok(u8_of(bits, 1)?)
-}
-
-#[tactic(auto, using(mv_syntax::proofs::LoopLaws::item_steps), unfolding(crate::specs::Weights::chroma_flags))]
-fn chroma_flags_of(alloc: Global, bits: &mut BitReader, n: u32) -> Result<Vec<u8>, SliceFault>
-    ensures { Fills (λ v. v.items) means bits.old bits.new result (read (chroma_flags n) bits.old.left) }
-{
-    let mut all = Vec::new(alloc);
-    for i in 0..n {
-        all.push(chroma_flag_of(bits, i)?)?;
-    }
-    Ok(all)
-}
-
-fn chroma_flags_if(
-    alloc: Global,
-    bits: &mut BitReader,
-    present: bool,
-    n: u32,
-) -> Result<Option<Vec<u8>>, SliceFault>
-    ensures { Fills (λ o. option_map (λ v. v.items) o) means bits.old bits.new result (read (when present (chroma_flags n)) bits.old.left) }
-{
-    if !present {
-        return Ok(None);
-    }
-    Ok(Some(chroma_flags_of(alloc, bits, n)?))
-}
-
 #[tactic(auto, unfolding(crate::specs::Weights::chroma_weight))]
-fn chroma_weight_of(bits: &mut BitReader, j: u32) -> Result<ChromaWeight, SliceFault>
-    ensures { Fills (λ v. v) means bits.old bits.new result (read (chroma_weight j) bits.old.left) }
+fn chroma_weight_of(bits: &mut BitReader) -> Result<ChromaWeight, Fault<Rule>>
+    ensures { ReadsBy chroma_weight bits.old bits.new result }
 {
     let delta_chroma_weight = bits.se()?;
     let delta_chroma_offset = bits.se()?;
@@ -146,13 +97,13 @@ fn chroma_weight_of(bits: &mut BitReader, j: u32) -> Result<ChromaWeight, SliceF
     })
 }
 
-#[tactic(auto, using(mv_syntax::proofs::LoopLaws::item_steps), unfolding(crate::specs::Weights::chroma_weights))]
-fn chroma_weights_of(alloc: Global, bits: &mut BitReader) -> Result<Vec<ChromaWeight>, SliceFault>
-    ensures { Fills (λ v. v.items) means bits.old bits.new result (read chroma_weights bits.old.left) }
+#[tactic(auto, using(mv_syntax::proofs::LoopLaws::item_steps), unfolding(crate::specs::Weights::chroma_weights, mv_syntax::specs::Loops::each))]
+fn chroma_weights_of(alloc: Global, bits: &mut BitReader) -> Result<Vec<ChromaWeight>, Fault<Rule>>
+    ensures { ReadsAs (λ v. v.items) chroma_weights bits.old bits.new result }
 {
     let mut all = Vec::new(alloc);
-    for i in 0..2 {
-        all.push(chroma_weight_of(bits, i)?)?;
+    for i in 0u32..2 {
+        all.push(chroma_weight_of(bits)?)?;
     }
     Ok(all)
 }
@@ -161,8 +112,8 @@ fn chroma_weights_if(
     alloc: Global,
     bits: &mut BitReader,
     present: bool,
-) -> Result<Option<Vec<ChromaWeight>>, SliceFault>
-    ensures { Fills (λ o. option_map (λ v. v.items) o) means bits.old bits.new result (read (when present chroma_weights) bits.old.left) }
+) -> Result<Option<Vec<ChromaWeight>>, Fault<Rule>>
+    ensures { ReadsAs (λ o. option_map (λ v. v.items) o) (when present chroma_weights) bits.old bits.new result }
 {
     if !present {
         return Ok(None);
@@ -184,8 +135,8 @@ fn entry_weights_of(
     luma: &[u8],
     chroma: &[u8],
     i: u32,
-) -> Result<EntryWeights, SliceFault>
-    ensures { Fills (λ v. v) means bits.old bits.new result (read (entry_weights luma.now chroma.now i) bits.old.left) }
+) -> Result<EntryWeights, Fault<Rule>>
+    ensures { ReadsBy (entry_weights luma.now chroma.now i) bits.old bits.new result }
 {
     let of_luma = flag_at(luma, i as usize);
     let delta_luma_weight = se_if(bits, of_luma)?;
@@ -205,8 +156,8 @@ fn entries_of(
     luma: &[u8],
     chroma: &[u8],
     n: u32,
-) -> Result<Vec<EntryWeights>, SliceFault>
-    ensures { Fills (λ v. v.items) means bits.old bits.new result (read (entry_weights_of_all luma.now chroma.now n) bits.old.left) }
+) -> Result<Vec<EntryWeights>, Fault<Rule>>
+    ensures { ReadsAs (λ v. v.items) (entry_weights_of_all luma.now chroma.now n) bits.old bits.new result }
 {
     let mut all = Vec::new(alloc);
     for i in 0..n {
@@ -231,11 +182,11 @@ fn list_weights_of(
     bits: &mut BitReader,
     chroma: bool,
     active: u32,
-) -> Result<ListWeights, SliceFault>
-    ensures { Fills (λ v. v) means bits.old bits.new result (read (list_weights chroma active) bits.old.left) }
+) -> Result<ListWeights, Fault<Rule>>
+    ensures { ReadsBy (list_weights chroma active) bits.old bits.new result }
 {
-    let luma_weight_flag = luma_flags_of(alloc, bits, active)?;
-    let chroma_weight_flag = chroma_flags_if(alloc, bits, chroma, active)?;
+    let luma_weight_flag = u8s_of(alloc, bits, active, 1)?;
+    let chroma_weight_flag = u8s_if(alloc, bits, chroma, active, 1)?;
     let entries = entries_of(
         alloc,
         bits,
@@ -257,8 +208,8 @@ fn numbered_list_of(
     chroma: bool,
     active: ActiveEntries,
     list: u32,
-) -> Result<ListWeights, SliceFault>
-    ensures { Fills (λ v. v) means bits.old bits.new result (read (numbered_list chroma active.l0 active.l1 list) bits.old.left) }
+) -> Result<ListWeights, Fault<Rule>>
+    ensures { ReadsBy (numbered_list chroma active.l0 active.l1 list) bits.old bits.new result }
 {
     if list == 0 {
         list_weights_of(alloc, bits, chroma, active.l0)
@@ -274,8 +225,8 @@ fn lists_weights_of(
     chroma: bool,
     active: ActiveEntries,
     n: u32,
-) -> Result<Vec<ListWeights>, SliceFault>
-    ensures { Fills (λ v. v.items) means bits.old bits.new result (read (lists_weights chroma active.l0 active.l1 n) bits.old.left) }
+) -> Result<Vec<ListWeights>, Fault<Rule>>
+    ensures { ReadsAs (λ v. v.items) (lists_weights chroma active.l0 active.l1 n) bits.old bits.new result }
 {
     let mut all = Vec::new(alloc);
     for i in 0..n {
@@ -298,8 +249,8 @@ fn pred_weight_table_of(
     chroma: bool,
     b: bool,
     active: ActiveEntries,
-) -> Result<PredWeightTable, SliceFault>
-    ensures { Fills (λ v. v) means bits.old bits.new result (read (pred_weight_table chroma b active.l0 active.l1) bits.old.left) }
+) -> Result<PredWeightTable, Fault<Rule>>
+    ensures { ReadsBy (pred_weight_table chroma b active.l0 active.l1) bits.old bits.new result }
 {
     let luma_log2_weight_denom = bits.ue()?;
     let delta_chroma_log2_weight_denom = se_if(bits, chroma)?;
@@ -318,8 +269,8 @@ pub(crate) fn pred_weight_table_if(
     chroma: bool,
     b: bool,
     active: ActiveEntries,
-) -> Result<Option<PredWeightTable>, SliceFault>
-    ensures { Fills (λ v. v) means bits.old bits.new result (read (when present (pred_weight_table chroma b active.l0 active.l1)) bits.old.left) }
+) -> Result<Option<PredWeightTable>, Fault<Rule>>
+    ensures { ReadsBy (when present (pred_weight_table chroma b active.l0 active.l1)) bits.old bits.new result }
 {
     if !present {
         return Ok(None);
@@ -327,196 +278,160 @@ pub(crate) fn pred_weight_table_if(
     Ok(Some(pred_weight_table_of(alloc, bits, chroma, b, active)?))
 }
 
-#[tactic(auto, unfolding(crate::specs::Weights::luma_flag))]
-fn put_luma_flag(out: &mut BitWriter, i: usize, field: u8) -> Result<(), AllocError>
-    requires { Valid (luma_flag i) field }
-    ensures { OnOk result (out.new ≡ put (luma_flag i) field out.old) }
-{
-    put_u8(out, 1, field)
-}
-
-#[tactic(auto, using(mv_syntax::proofs::LoopLaws::put_item_steps), unfolding(crate::specs::Weights::luma_flags))]
-fn put_luma_flags(out: &mut BitWriter, n: u32, all: &[u8]) -> Result<(), AllocError>
-    requires { Valid (luma_flags n) all.now }
-    ensures { OnOk result (out.new ≡ put (luma_flags n) all.now out.old) }
-{
-    for i in 0..all.len() {
-        put_luma_flag(out, i, all[i])?;
-    }
-    Ok(())
-}
-
-#[tactic(auto, unfolding(crate::specs::Weights::chroma_flag))]
-fn put_chroma_flag(out: &mut BitWriter, i: usize, field: u8) -> Result<(), AllocError>
-    requires { Valid (chroma_flag i) field }
-    ensures { OnOk result (out.new ≡ put (chroma_flag i) field out.old) }
-{
-    put_u8(out, 1, field)
-}
-
-#[tactic(auto, using(mv_syntax::proofs::LoopLaws::put_item_steps), unfolding(crate::specs::Weights::chroma_flags))]
-fn put_chroma_flags(out: &mut BitWriter, n: u32, all: &[u8]) -> Result<(), AllocError>
-    requires { Valid (chroma_flags n) all.now }
-    ensures { OnOk result (out.new ≡ put (chroma_flags n) all.now out.old) }
-{
-    for i in 0..all.len() {
-        put_chroma_flag(out, i, all[i])?;
-    }
-    Ok(())
-}
-
-fn put_chroma_flags_if(
-    out: &mut BitWriter,
-    present: bool,
-    n: u32,
-    all: &Option<Vec<u8>>,
-) -> Result<(), AllocError>
-    requires { Valid (when present (chroma_flags n)) (option_map (λ v. v.items) all.now) }
-    ensures { OnOk result (out.new ≡ put (when present (chroma_flags n)) (option_map (λ v. v.items) all.now) out.old) }
-{
-    match all {
-        Some(all) => put_chroma_flags(out, n, all),
-        None => Ok(()),
-    }
-}
-
 #[tactic(auto, unfolding(crate::specs::Weights::chroma_weight))]
-fn put_chroma_weight(out: &mut BitWriter, j: usize, v: ChromaWeight) -> Result<(), AllocError>
-    requires { Valid (chroma_weight j) v }
-    ensures { OnOk result (out.new ≡ put (chroma_weight j) v out.old) }
+fn print_chroma_weight(out: &mut Printer, v: ChromaWeight) -> Result<(), AllocError>
+    requires { Valid chroma_weight v }
+    ensures { OnOk result (out.new ≡ printed chroma_weight v out.old) }
 {
-    put_se(out, v.delta_chroma_weight)?;
-    put_se(out, v.delta_chroma_offset)
+    out.se("delta_chroma_weight", v.delta_chroma_weight)?;
+    out.se("delta_chroma_offset", v.delta_chroma_offset)
 }
 
-#[tactic(auto, using(mv_syntax::proofs::LoopLaws::put_item_steps), unfolding(crate::specs::Weights::chroma_weights))]
-fn put_chroma_weights(out: &mut BitWriter, all: &[ChromaWeight]) -> Result<(), AllocError>
+#[tactic(auto, using(mv_syntax::proofs::PrintingLoops::print_item_steps), unfolding(crate::specs::Weights::chroma_weights, mv_syntax::specs::Loops::each))]
+fn print_chroma_weights(out: &mut Printer, all: &[ChromaWeight]) -> Result<(), AllocError>
     requires { Valid chroma_weights all.now }
-    ensures { OnOk result (out.new ≡ put chroma_weights all.now out.old) }
+    ensures { OnOk result (out.new ≡ printed chroma_weights all.now out.old) }
 {
     for j in 0..all.len() {
-        put_chroma_weight(out, j, all[j])?;
+        let outer = out.open(j as u64)?;
+        print_chroma_weight(out, all[j])?;
+        out.close(outer);
     }
     Ok(())
 }
 
-fn put_chroma_weights_if(
-    out: &mut BitWriter,
+fn print_chroma_weights_if(
+    out: &mut Printer,
     present: bool,
     all: &Option<Vec<ChromaWeight>>,
 ) -> Result<(), AllocError>
     requires { Valid (when present chroma_weights) (option_map (λ v. v.items) all.now) }
-    ensures { OnOk result (out.new ≡ put (when present chroma_weights) (option_map (λ v. v.items) all.now) out.old) }
+    ensures { OnOk result (out.new ≡ printed (when present chroma_weights) (option_map (λ v. v.items) all.now) out.old) }
 {
     match all {
-        Some(all) => put_chroma_weights(out, all),
+        Some(all) => print_chroma_weights(out, all),
         None => Ok(()),
     }
 }
 
 #[tactic(auto, unfolding(crate::specs::Weights::entry_weights))]
-fn put_entry_weights(
-    out: &mut BitWriter,
+fn print_entry_weights(
+    out: &mut Printer,
     luma: &[u8],
     chroma: &[u8],
     i: usize,
     v: &EntryWeights,
 ) -> Result<(), AllocError>
     requires { Valid (entry_weights luma.now chroma.now i) v.now }
-    ensures { OnOk result (out.new ≡ put (entry_weights luma.now chroma.now i) v.now out.old) }
+    ensures { OnOk result (out.new ≡ printed (entry_weights luma.now chroma.now i) v.now out.old) }
 {
     let of_luma = flag_at(luma, i);
-    put_se_if(out, of_luma, v.delta_luma_weight)?;
-    put_se_if(out, of_luma, v.luma_offset)?;
-    put_chroma_weights_if(out, flag_at(chroma, i), &v.chroma)
+    out.se_if(of_luma, "delta_luma_weight", v.delta_luma_weight)?;
+    out.se_if(of_luma, "luma_offset", v.luma_offset)?;
+    print_chroma_weights_if(out, flag_at(chroma, i), &v.chroma)
 }
 
-#[tactic(auto, using(mv_syntax::proofs::LoopLaws::put_item_steps), unfolding(crate::specs::Weights::entry_weights_of_all))]
-fn put_entries(
-    out: &mut BitWriter,
+#[tactic(auto, using(mv_syntax::proofs::PrintingLoops::print_item_steps), unfolding(crate::specs::Weights::entry_weights_of_all))]
+fn print_entries(
+    out: &mut Printer,
     luma: &[u8],
     chroma: &[u8],
     n: u32,
     all: &[EntryWeights],
 ) -> Result<(), AllocError>
     requires { Valid (entry_weights_of_all luma.now chroma.now n) all.now }
-    ensures { OnOk result (out.new ≡ put (entry_weights_of_all luma.now chroma.now n) all.now out.old) }
+    ensures { OnOk result (out.new ≡ printed (entry_weights_of_all luma.now chroma.now n) all.now out.old) }
 {
     for i in 0..all.len() {
-        put_entry_weights(out, luma, chroma, i, &all[i])?;
+        let outer = out.open(i as u64)?;
+        print_entry_weights(out, luma, chroma, i, &all[i])?;
+        out.close(outer);
     }
     Ok(())
 }
 
 #[tactic(auto, unfolding(crate::specs::Weights::list_weights))]
-fn put_list_weights(
-    out: &mut BitWriter,
+fn print_list_weights(
+    out: &mut Printer,
     chroma: bool,
     active: u32,
     v: &ListWeights,
 ) -> Result<(), AllocError>
     requires { Valid (list_weights chroma active) v.now }
-    ensures { OnOk result (out.new ≡ put (list_weights chroma active) v.now out.old) }
+    ensures { OnOk result (out.new ≡ printed (list_weights chroma active) v.now out.old) }
 {
     let of_chroma = flags_or_none(&v.chroma_weight_flag);
-    put_luma_flags(out, active, &v.luma_weight_flag)?;
-    put_chroma_flags_if(out, chroma, active, &v.chroma_weight_flag)?;
-    put_entries(out, &v.luma_weight_flag, of_chroma, active, &v.entries)
+    out.u8s("luma_weight_flag", 0, active, 1, &v.luma_weight_flag)?;
+    out.u8s_if(
+        chroma,
+        "chroma_weight_flag",
+        0,
+        active,
+        1,
+        &v.chroma_weight_flag,
+    )?;
+    print_entries(out, &v.luma_weight_flag, of_chroma, active, &v.entries)
 }
 
 #[tactic(auto, unfolding(crate::specs::Weights::numbered_list))]
-fn put_numbered_list(
-    out: &mut BitWriter,
+fn print_numbered_list(
+    out: &mut Printer,
     chroma: bool,
     active: ActiveEntries,
     list: usize,
     v: &ListWeights,
 ) -> Result<(), AllocError>
     requires { Valid (numbered_list chroma active.l0 active.l1 list) v.now }
-    ensures { OnOk result (out.new ≡ put (numbered_list chroma active.l0 active.l1 list) v.now out.old) }
+    ensures { OnOk result (out.new ≡ printed (numbered_list chroma active.l0 active.l1 list) v.now out.old) }
 {
     if list == 0 {
-        put_list_weights(out, chroma, active.l0, v)
+        print_list_weights(out, chroma, active.l0, v)
     } else {
-        put_list_weights(out, chroma, active.l1, v)
+        print_list_weights(out, chroma, active.l1, v)
     }
 }
 
-#[tactic(auto, using(mv_syntax::proofs::LoopLaws::put_item_steps), unfolding(crate::specs::Weights::lists_weights))]
-fn put_lists_weights(
-    out: &mut BitWriter,
+#[tactic(auto, using(mv_syntax::proofs::PrintingLoops::print_item_steps), unfolding(crate::specs::Weights::lists_weights))]
+fn print_lists_weights(
+    out: &mut Printer,
     chroma: bool,
     active: ActiveEntries,
     n: u32,
     all: &[ListWeights],
 ) -> Result<(), AllocError>
     requires { Valid (lists_weights chroma active.l0 active.l1 n) all.now }
-    ensures { OnOk result (out.new ≡ put (lists_weights chroma active.l0 active.l1 n) all.now out.old) }
+    ensures { OnOk result (out.new ≡ printed (lists_weights chroma active.l0 active.l1 n) all.now out.old) }
 {
     for i in 0..all.len() {
-        put_numbered_list(out, chroma, active, i, &all[i])?;
+        let outer = out.open(i as u64)?;
+        print_numbered_list(out, chroma, active, i, &all[i])?;
+        out.close(outer);
     }
     Ok(())
 }
 
 #[tactic(auto, unfolding(crate::specs::Weights::pred_weight_table))]
-fn put_pred_weight_table(
-    out: &mut BitWriter,
+fn print_pred_weight_table(
+    out: &mut Printer,
     v: &PredWeightTable,
     chroma: bool,
     b: bool,
     active: ActiveEntries,
 ) -> Result<(), AllocError>
     requires { Valid (pred_weight_table chroma b active.l0 active.l1) v.now }
-    ensures { OnOk result (out.new ≡ put (pred_weight_table chroma b active.l0 active.l1) v.now out.old) }
+    ensures { OnOk result (out.new ≡ printed (pred_weight_table chroma b active.l0 active.l1) v.now out.old) }
 {
-    put_ue(out, v.luma_log2_weight_denom)?;
-    put_se_if(out, chroma, v.delta_chroma_log2_weight_denom)?;
-    put_lists_weights(out, chroma, active, num_lists(b), &v.lists)
+    out.ue("luma_log2_weight_denom", v.luma_log2_weight_denom)?;
+    out.se_if(
+        chroma,
+        "delta_chroma_log2_weight_denom",
+        v.delta_chroma_log2_weight_denom,
+    )?;
+    print_lists_weights(out, chroma, active, num_lists(b), &v.lists)
 }
 
-pub(crate) fn put_pred_weight_table_if(
-    out: &mut BitWriter,
+pub(crate) fn print_pred_weight_table_if(
+    out: &mut Printer,
     present: bool,
     v: &Option<PredWeightTable>,
     chroma: bool,
@@ -524,10 +439,10 @@ pub(crate) fn put_pred_weight_table_if(
     active: ActiveEntries,
 ) -> Result<(), AllocError>
     requires { Valid (when present (pred_weight_table chroma b active.l0 active.l1)) v.now }
-    ensures { OnOk result (out.new ≡ put (when present (pred_weight_table chroma b active.l0 active.l1)) v.now out.old) }
+    ensures { OnOk result (out.new ≡ printed (when present (pred_weight_table chroma b active.l0 active.l1)) v.now out.old) }
 {
     match v {
-        Some(v) => put_pred_weight_table(out, v, chroma, b, active),
+        Some(v) => print_pred_weight_table(out, v, chroma, b, active),
         None => Ok(()),
     }
 }

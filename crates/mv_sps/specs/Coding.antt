@@ -19,13 +19,13 @@ pub record SpsCodingValue : Type 0 where
 
 unfoldable pub coding : Bool → ℕ → Table SpsCodingValue
 coding ext lsb_bits = shaped
-    (λ c. record {
-      blocks = c.0;
-      scaling = c.1.0;
-      tools = c.1.1.0;
-      references = c.1.1.1.0;
-      sps_temporal_mvp_enabled_flag = c.1.1.1.1.0;
-      strong_intra_smoothing_enabled_flag = c.1.1.1.1.1;
+    (λ (blocks, (scaling, (tools, (references, (sps_temporal_mvp_enabled_flag, strong_intra_smoothing_enabled_flag))))). record {
+      blocks = blocks;
+      scaling = scaling;
+      tools = tools;
+      references = references;
+      sps_temporal_mvp_enabled_flag = sps_temporal_mvp_enabled_flag;
+      strong_intra_smoothing_enabled_flag = strong_intra_smoothing_enabled_flag;
     })
     (λ v.
     v.blocks

@@ -3,15 +3,16 @@
 use Rattle.std.specs.Prelude.{ℕ, Bool, ◌||◌, nat_eq, refl}
 use Rattle.mv_syntax.specs.Table.{Table, ◌>>=◌, u, ue, named, when, shaped}
 use Rattle.mv_syntax.specs.Words.{◌▸◌, ◌>>◌, ◌!◌∶◌, over, is_set}
+use Rattle.mv_rules.specs.declared.rule.Rule.TheVariants.{ColourPlanes, SpsLimit}
 use Rattle.mv_sps.specs.declared.rep_format.SpsRepFormat.{SpsRepFormat}
 use Rattle.mv_sps.specs.declared.picture_format.SpsPictureFormat.{SpsPictureFormat}
 
 -- With MultiLayerExtSpsFlag: the index, where it isn't the layer's own of the VPS.
 unfoldable pub rep_format : Table SpsRepFormat
 rep_format = shaped
-    (λ c. record {
-      update_rep_format_flag = c.0;
-      sps_rep_format_idx = c.1;
+    (λ (update_rep_format_flag, sps_rep_format_idx). record {
+      update_rep_format_flag = update_rep_format_flag;
+      sps_rep_format_idx = sps_rep_format_idx;
     })
     (λ v.
     v.update_rep_format_flag
@@ -26,21 +27,21 @@ abbrev pub no_side : ℕ → Bool
 no_side n = nat_eq n 0 || over 16384 n
 
 -- Without it: the format. Three colour planes coded apart break rule 34; a chroma format over 3, a width or height of 0 or
--- over 16,384 and a bit depth over 16 break the limit rule, 36 (this project's profile).
+-- over 16,384 and a bit depth over 16 break the limit rule (this project's profile).
 unfoldable pub picture_format : Table SpsPictureFormat
 picture_format = shaped
-    (λ c. record {
-      chroma_format_idc = c.0;
-      separate_colour_plane_flag = c.1.0;
-      pic_width_in_luma_samples = c.1.1.0;
-      pic_height_in_luma_samples = c.1.1.1.0;
-      conformance_window_flag = c.1.1.1.1.0;
-      conf_win_left_offset = c.1.1.1.1.1.0;
-      conf_win_right_offset = c.1.1.1.1.1.1.0;
-      conf_win_top_offset = c.1.1.1.1.1.1.1.0;
-      conf_win_bottom_offset = c.1.1.1.1.1.1.1.1.0;
-      bit_depth_luma_minus8 = c.1.1.1.1.1.1.1.1.1.0;
-      bit_depth_chroma_minus8 = c.1.1.1.1.1.1.1.1.1.1;
+    (λ (chroma_format_idc, (separate_colour_plane_flag, (pic_width_in_luma_samples, (pic_height_in_luma_samples, (conformance_window_flag, (conf_win_left_offset, (conf_win_right_offset, (conf_win_top_offset, (conf_win_bottom_offset, (bit_depth_luma_minus8, bit_depth_chroma_minus8)))))))))). record {
+      chroma_format_idc = chroma_format_idc;
+      separate_colour_plane_flag = separate_colour_plane_flag;
+      pic_width_in_luma_samples = pic_width_in_luma_samples;
+      pic_height_in_luma_samples = pic_height_in_luma_samples;
+      conformance_window_flag = conformance_window_flag;
+      conf_win_left_offset = conf_win_left_offset;
+      conf_win_right_offset = conf_win_right_offset;
+      conf_win_top_offset = conf_win_top_offset;
+      conf_win_bottom_offset = conf_win_bottom_offset;
+      bit_depth_luma_minus8 = bit_depth_luma_minus8;
+      bit_depth_chroma_minus8 = bit_depth_chroma_minus8;
     })
     (λ v.
     v.chroma_format_idc
@@ -56,15 +57,15 @@ picture_format = shaped
     ▸ v.bit_depth_chroma_minus8)
     (λ _. refl)
     do
-      chroma_format_idc ← named "chroma_format_idc" (ue ! 36 ∶ over 3)
-      named "separate_colour_plane_flag" (when (nat_eq chroma_format_idc 3) (u 1 ! 34 ∶ is_set))
-      named "pic_width_in_luma_samples" (ue ! 36 ∶ no_side)
-      named "pic_height_in_luma_samples" (ue ! 36 ∶ no_side)
+      chroma_format_idc ← named "chroma_format_idc" (ue ! SpsLimit ∶ over 3)
+      named "separate_colour_plane_flag" (when (nat_eq chroma_format_idc 3) (u 1 ! ColourPlanes ∶ is_set))
+      named "pic_width_in_luma_samples" (ue ! SpsLimit ∶ no_side)
+      named "pic_height_in_luma_samples" (ue ! SpsLimit ∶ no_side)
       conformance_window_flag ← named "conformance_window_flag" (u 1)
       let window : Bool = is_set conformance_window_flag in do
         named "conf_win_left_offset" (when window ue)
         named "conf_win_right_offset" (when window ue)
         named "conf_win_top_offset" (when window ue)
         named "conf_win_bottom_offset" (when window ue)
-        named "bit_depth_luma_minus8" (ue ! 36 ∶ over 8)
-        named "bit_depth_chroma_minus8" (ue ! 36 ∶ over 8)
+        named "bit_depth_luma_minus8" (ue ! SpsLimit ∶ over 8)
+        named "bit_depth_chroma_minus8" (ue ! SpsLimit ∶ over 8)

@@ -1,4 +1,4 @@
-pub mod Head
+pub mod Opening
 pub mod Format
 pub mod Ordering
 pub mod Blocks

@@ -1,8 +1,9 @@
 -- The pictures in a sequence parameter set (7.3.2.2.1, F.7.3.2.2.1): their format, how many bits of their order counts slices
--- code, and the sub-layers' numbers of pictures. Over 16 such bits break the limit rule, 36 (this project's profile).
+-- code, and the sub-layers' numbers of pictures. Over 16 such bits break the limit rule (this project's profile).
 use Rattle.std.specs.Prelude.{ℕ, Bool, not, Option, refl}
 use Rattle.mv_syntax.specs.Table.{Table, ue, named, when, shaped}
 use Rattle.mv_syntax.specs.Words.{◌▸◌, ◌>>◌, ◌!◌∶◌, over}
+use Rattle.mv_rules.specs.declared.rule.Rule.TheVariants.{SpsLimit}
 use Rattle.mv_sps.specs.declared.rep_format.SpsRepFormat.{SpsRepFormat}
 use Rattle.mv_sps.specs.declared.picture_format.SpsPictureFormat.{SpsPictureFormat}
 use Rattle.mv_sps.specs.Format.{rep_format, picture_format}
@@ -16,11 +17,11 @@ pub record SpsPicturesValue : Type 0 where
 
 unfoldable pub pictures : Bool → ℕ → Table SpsPicturesValue
 pictures ext subs = shaped
-    (λ c. record {
-      rep_format = c.0;
-      picture_format = c.1.0;
-      log2_max_pic_order_cnt_lsb_minus4 = c.1.1.0;
-      ordering = c.1.1.1;
+    (λ (rep_format, (picture_format, (log2_max_pic_order_cnt_lsb_minus4, ordering))). record {
+      rep_format = rep_format;
+      picture_format = picture_format;
+      log2_max_pic_order_cnt_lsb_minus4 = log2_max_pic_order_cnt_lsb_minus4;
+      ordering = ordering;
     })
     (λ v.
     v.rep_format
@@ -31,5 +32,5 @@ pictures ext subs = shaped
     do
       when ext rep_format
       when (not ext) picture_format
-      named "log2_max_pic_order_cnt_lsb_minus4" (ue ! 36 ∶ over 12)
+      named "log2_max_pic_order_cnt_lsb_minus4" (ue ! SpsLimit ∶ over 12)
       when (not ext) (ordering subs)

@@ -1,7 +1,8 @@
 -- The scaling lists of a sequence parameter set (7.3.2.2.1, F.7.3.2.2.1): those of another layer, its own, or the default ones.
 use Rattle.std.specs.Prelude.{ℕ, Bool, not, ◌&&◌, List, Option, refl}
-use Rattle.mv_syntax.specs.Table.{Table, ◌>>=◌, u, named, when, by_rule, shaped}
-use Rattle.mv_syntax.specs.Words.{◌▸◌, ◌>>◌, is_set, coded_set}
+use Rattle.mv_syntax.specs.Table.{Table, ◌>>=◌, u, named, when, shaped}
+use Rattle.mv_syntax.specs.Words.{◌under◌, ◌▸◌, ◌>>◌, is_set, coded_set}
+use Rattle.mv_rules.specs.declared.rule.Rule.TheVariants.{SpsLimit}
 use Rattle.mv_common.specs.ScalingListValue.{ScalingListValue}
 use Rattle.mv_common.specs.ScalingLists.{scaling_list_data}
 
@@ -14,12 +15,12 @@ pub record SpsScalingValue : Type 0 where
 
 unfoldable pub scaling : Bool → Table SpsScalingValue
 scaling ext = shaped
-    (λ c. record {
-      scaling_list_enabled_flag = c.0;
-      sps_infer_scaling_list_flag = c.1.0;
-      sps_scaling_list_ref_layer_id = c.1.1.0;
-      sps_scaling_list_data_present_flag = c.1.1.1.0;
-      scaling_list_data = c.1.1.1.1;
+    (λ (scaling_list_enabled_flag, (sps_infer_scaling_list_flag, (sps_scaling_list_ref_layer_id, (sps_scaling_list_data_present_flag, scaling_list_data)))). record {
+      scaling_list_enabled_flag = scaling_list_enabled_flag;
+      sps_infer_scaling_list_flag = sps_infer_scaling_list_flag;
+      sps_scaling_list_ref_layer_id = sps_scaling_list_ref_layer_id;
+      sps_scaling_list_data_present_flag = sps_scaling_list_data_present_flag;
+      scaling_list_data = scaling_list_data;
     })
     (λ v.
     v.scaling_list_enabled_flag
@@ -35,4 +36,4 @@ scaling ext = shaped
         let infer : Bool = coded_set sps_infer_scaling_list_flag in do
           named "sps_scaling_list_ref_layer_id" (when infer (u 6))
           sps_scaling_list_data_present_flag ← named "sps_scaling_list_data_present_flag" (when (enabled && not infer) (u 1))
-          when (coded_set sps_scaling_list_data_present_flag) (by_rule 36 scaling_list_data)
+          when (coded_set sps_scaling_list_data_present_flag) (scaling_list_data under SpsLimit)

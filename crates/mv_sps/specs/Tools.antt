@@ -6,15 +6,15 @@ use Rattle.mv_sps.specs.declared.tools.SpsTools.{SpsTools}
 
 unfoldable pub tools : Table SpsTools
 tools = shaped
-    (λ c. record {
-      amp_enabled_flag = c.0;
-      sample_adaptive_offset_enabled_flag = c.1.0;
-      pcm_enabled_flag = c.1.1.0;
-      pcm_sample_bit_depth_luma_minus1 = c.1.1.1.0;
-      pcm_sample_bit_depth_chroma_minus1 = c.1.1.1.1.0;
-      log2_min_pcm_luma_coding_block_size_minus3 = c.1.1.1.1.1.0;
-      log2_diff_max_min_pcm_luma_coding_block_size = c.1.1.1.1.1.1.0;
-      pcm_loop_filter_disabled_flag = c.1.1.1.1.1.1.1;
+    (λ (amp_enabled_flag, (sample_adaptive_offset_enabled_flag, (pcm_enabled_flag, (pcm_sample_bit_depth_luma_minus1, (pcm_sample_bit_depth_chroma_minus1, (log2_min_pcm_luma_coding_block_size_minus3, (log2_diff_max_min_pcm_luma_coding_block_size, pcm_loop_filter_disabled_flag))))))). record {
+      amp_enabled_flag = amp_enabled_flag;
+      sample_adaptive_offset_enabled_flag = sample_adaptive_offset_enabled_flag;
+      pcm_enabled_flag = pcm_enabled_flag;
+      pcm_sample_bit_depth_luma_minus1 = pcm_sample_bit_depth_luma_minus1;
+      pcm_sample_bit_depth_chroma_minus1 = pcm_sample_bit_depth_chroma_minus1;
+      log2_min_pcm_luma_coding_block_size_minus3 = log2_min_pcm_luma_coding_block_size_minus3;
+      log2_diff_max_min_pcm_luma_coding_block_size = log2_diff_max_min_pcm_luma_coding_block_size;
+      pcm_loop_filter_disabled_flag = pcm_loop_filter_disabled_flag;
     })
     (λ v.
     v.amp_enabled_flag

@@ -1,7 +1,8 @@
 -- The usability information of a sequence parameter set (7.3.2.2.1).
 use Rattle.std.specs.Prelude.{ℕ, Option, refl}
-use Rattle.mv_syntax.specs.Table.{Table, ◌>>=◌, u, named, when, by_rule, shaped}
-use Rattle.mv_syntax.specs.Words.{◌▸◌, is_set}
+use Rattle.mv_syntax.specs.Table.{Table, ◌>>=◌, u, named, when, shaped}
+use Rattle.mv_syntax.specs.Words.{◌under◌, ◌▸◌, is_set}
+use Rattle.mv_rules.specs.declared.rule.Rule.TheVariants.{SpsLimit}
 use Rattle.mv_common.specs.Vui.{VuiValue, vui_parameters}
 
 pub record SpsVuiValue : Type 0 where
@@ -10,9 +11,9 @@ pub record SpsVuiValue : Type 0 where
 
 unfoldable pub usability : ℕ → Table SpsVuiValue
 usability subs = shaped
-    (λ c. record {
-      vui_parameters_present_flag = c.0;
-      vui_parameters = c.1;
+    (λ (vui_parameters_present_flag, vui_parameters). record {
+      vui_parameters_present_flag = vui_parameters_present_flag;
+      vui_parameters = vui_parameters;
     })
     (λ v.
     v.vui_parameters_present_flag
@@ -20,4 +21,4 @@ usability subs = shaped
     (λ _. refl)
     do
       vui_parameters_present_flag ← named "vui_parameters_present_flag" (u 1)
-      when (is_set vui_parameters_present_flag) (by_rule 36 (vui_parameters subs))
+      when (is_set vui_parameters_present_flag) (vui_parameters subs under SpsLimit)

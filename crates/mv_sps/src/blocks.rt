@@ -1,13 +1,12 @@
 ghost use Rattle.std.specs.Prelude.{◌≡◌, OnOk};
-ghost use Rattle.mv_syntax.specs.Table.{Valid, read, put};
-ghost use Rattle.mv_syntax.specs.Answers.{Fills};
-ghost use Rattle.mv_fields.specs.Faults.{means};
+ghost use Rattle.mv_syntax.specs.Table.{Valid};
+ghost use Rattle.mv_syntax.specs.Printed.{printed};
+ghost use Rattle.mv_fields.specs.Reading.{ReadsBy};
 ghost use Rattle.mv_sps.specs.Blocks.{blocks};
 
-use mv_bits::{BitReader, BitWriter};
-use mv_common::put_ue;
-use mv_fields::{HeaderFault, ue_sum_within, ue_within};
-use mv_io::Rule;
+use mv_bits::BitReader;
+use mv_fields::{Fault, Printer, ue_sum_within, ue_within};
+use mv_rules::Rule;
 use std::alloc::AllocError;
 
 /// The sizes of the coding and the transform blocks, as powers of two, and how often a coding block's residual is split.
@@ -22,8 +21,8 @@ pub struct SpsBlocks {
 }
 
 #[tactic(auto, unfolding(crate::specs::Blocks::blocks))]
-pub(crate) fn blocks_of(bits: &mut BitReader) -> Result<SpsBlocks, HeaderFault>
-    ensures { Fills (λ v. v) means bits.old bits.new result (read blocks bits.old.left) }
+pub(crate) fn blocks_of(bits: &mut BitReader) -> Result<SpsBlocks, Fault<Rule>>
+    ensures { ReadsBy blocks bits.old bits.new result }
 {
     let log2_min_luma_coding_block_size_minus3 = ue_within(bits, Rule::SpsLimit, 3)?;
     let log2_diff_max_min_luma_coding_block_size = ue_sum_within(
@@ -47,14 +46,32 @@ pub(crate) fn blocks_of(bits: &mut BitReader) -> Result<SpsBlocks, HeaderFault>
 }
 
 #[tactic(auto, unfolding(crate::specs::Blocks::blocks))]
-pub(crate) fn put_blocks(out: &mut BitWriter, v: &SpsBlocks) -> Result<(), AllocError>
+pub(crate) fn print_blocks(out: &mut Printer, v: &SpsBlocks) -> Result<(), AllocError>
     requires { Valid blocks v.now }
-    ensures { OnOk result (out.new ≡ put blocks v.now out.old) }
+    ensures { OnOk result (out.new ≡ printed blocks v.now out.old) }
 {
-    put_ue(out, v.log2_min_luma_coding_block_size_minus3)?;
-    put_ue(out, v.log2_diff_max_min_luma_coding_block_size)?;
-    put_ue(out, v.log2_min_luma_transform_block_size_minus2)?;
-    put_ue(out, v.log2_diff_max_min_luma_transform_block_size)?;
-    put_ue(out, v.max_transform_hierarchy_depth_inter)?;
-    put_ue(out, v.max_transform_hierarchy_depth_intra)
+    out.ue(
+        "log2_min_luma_coding_block_size_minus3",
+        v.log2_min_luma_coding_block_size_minus3,
+    )?;
+    out.ue(
+        "log2_diff_max_min_luma_coding_block_size",
+        v.log2_diff_max_min_luma_coding_block_size,
+    )?;
+    out.ue(
+        "log2_min_luma_transform_block_size_minus2",
+        v.log2_min_luma_transform_block_size_minus2,
+    )?;
+    out.ue(
+        "log2_diff_max_min_luma_transform_block_size",
+        v.log2_diff_max_min_luma_transform_block_size,
+    )?;
+    out.ue(
+        "max_transform_hierarchy_depth_inter",
+        v.max_transform_hierarchy_depth_inter,
+    )?;
+    out.ue(
+        "max_transform_hierarchy_depth_intra",
+        v.max_transform_hierarchy_depth_intra,
+    )
 }

@@ -1,16 +1,16 @@
 ghost use Rattle.std.specs.Prelude.{◌≡◌, ◌≤◌, OnOk};
-ghost use Rattle.mv_syntax.specs.Table.{Valid, read, put};
-ghost use Rattle.mv_syntax.specs.Answers.{Fills};
-ghost use Rattle.mv_fields.specs.Faults.{means};
+ghost use Rattle.mv_syntax.specs.Table.{Valid};
+ghost use Rattle.mv_syntax.specs.Printed.{printed};
+ghost use Rattle.mv_fields.specs.Reading.{ReadsBy};
 ghost use Rattle.mv_sps.specs.Coding.{coding};
 
-use crate::blocks::{SpsBlocks, blocks_of, put_blocks};
-use crate::references::{SpsReferences, put_references, references_of};
-use crate::scaling::{SpsScaling, put_scaling, scaling_of};
-use crate::tools::{SpsTools, put_tools, tools_of};
-use mv_bits::{BitReader, BitWriter};
-use mv_common::{put_u8, u8_of};
-use mv_fields::HeaderFault;
+use crate::blocks::{SpsBlocks, blocks_of, print_blocks};
+use crate::references::{SpsReferences, print_references, references_of};
+use crate::scaling::{SpsScaling, print_scaling, scaling_of};
+use crate::tools::{SpsTools, print_tools, tools_of};
+use mv_bits::BitReader;
+use mv_fields::{Fault, Printer, u8_of};
+use mv_rules::Rule;
 use std::alloc::{AllocError, Global};
 use std::marker::Model;
 
@@ -46,9 +46,9 @@ pub(crate) fn coding_of(
     bits: &mut BitReader,
     ext: bool,
     lsb_bits: u8,
-) -> Result<SpsCoding, HeaderFault>
+) -> Result<SpsCoding, Fault<Rule>>
     requires { lsb_bits ≤ 16 }
-    ensures { Fills (λ v. v) means bits.old bits.new result (read (coding ext lsb_bits) bits.old.left) }
+    ensures { ReadsBy (coding ext lsb_bits) bits.old bits.new result }
 {
     Ok(SpsCoding {
         blocks: blocks_of(bits)?,
@@ -61,20 +61,27 @@ pub(crate) fn coding_of(
 }
 
 #[tactic(auto, unfolding(crate::specs::Coding::coding))]
-pub(crate) fn put_coding(
-    out: &mut BitWriter,
+pub(crate) fn print_coding(
+    out: &mut Printer,
     v: &SpsCoding,
     ext: bool,
     lsb_bits: u8,
 ) -> Result<(), AllocError>
     requires width { lsb_bits ≤ 16 }
     requires valid { Valid (coding ext lsb_bits) v.now }
-    ensures { OnOk result (out.new ≡ put (coding ext lsb_bits) v.now out.old) }
+    ensures { OnOk result (out.new ≡ printed (coding ext lsb_bits) v.now out.old) }
 {
-    put_blocks(out, &v.blocks)?;
-    put_scaling(out, &v.scaling, ext)?;
-    put_tools(out, &v.tools)?;
-    put_references(out, &v.references, lsb_bits)?;
-    put_u8(out, 1, v.sps_temporal_mvp_enabled_flag)?;
-    put_u8(out, 1, v.strong_intra_smoothing_enabled_flag)
+    print_blocks(out, &v.blocks)?;
+    print_scaling(out, &v.scaling, ext)?;
+    print_tools(out, &v.tools)?;
+    print_references(out, &v.references, lsb_bits)?;
+    out.flag(
+        "sps_temporal_mvp_enabled_flag",
+        v.sps_temporal_mvp_enabled_flag,
+    )?;
+    out.flag(
+        "strong_intra_smoothing_enabled_flag",
+        v.strong_intra_smoothing_enabled_flag,
+    )?;
+    Ok(())
 }

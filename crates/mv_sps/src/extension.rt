@@ -1,13 +1,12 @@
 ghost use Rattle.std.specs.Prelude.{◌≡◌, OnOk};
-ghost use Rattle.mv_syntax.specs.Table.{Valid, read, put};
-ghost use Rattle.mv_syntax.specs.Answers.{Fills};
-ghost use Rattle.mv_fields.specs.Faults.{means};
+ghost use Rattle.mv_syntax.specs.Table.{Valid};
+ghost use Rattle.mv_syntax.specs.Printed.{printed};
+ghost use Rattle.mv_fields.specs.Reading.{ReadsBy};
 ghost use Rattle.mv_sps.specs.Extension.{extension};
 
-use mv_bits::{BitReader, BitWriter};
-use mv_common::{coded_set, put_u8, put_u8_if, u8_if, u8_of};
-use mv_fields::{HeaderFault, unset_flag_if};
-use mv_io::Rule;
+use mv_bits::BitReader;
+use mv_fields::{Fault, Printer, coded_set, u8_if, u8_of, unset_flag_if};
+use mv_rules::Rule;
 use std::alloc::AllocError;
 
 /// The extension flags, and the multilayer extension.
@@ -23,8 +22,8 @@ pub struct SpsExtension {
 }
 
 #[tactic(auto, unfolding(crate::specs::Extension::extension))]
-pub(crate) fn extension_of(bits: &mut BitReader) -> Result<SpsExtension, HeaderFault>
-    ensures { Fills (λ v. v) means bits.old bits.new result (read extension bits.old.left) }
+pub(crate) fn extension_of(bits: &mut BitReader) -> Result<SpsExtension, Fault<Rule>>
+    ensures { ReadsBy extension bits.old bits.new result }
 {
     let sps_extension_present_flag = u8_of(bits, 1)?;
     let present = sps_extension_present_flag == 1;
@@ -50,21 +49,28 @@ pub(crate) fn extension_of(bits: &mut BitReader) -> Result<SpsExtension, HeaderF
 }
 
 #[tactic(auto, unfolding(crate::specs::Extension::extension))]
-pub(crate) fn put_extension(out: &mut BitWriter, v: &SpsExtension) -> Result<(), AllocError>
+pub(crate) fn print_extension(out: &mut Printer, v: &SpsExtension) -> Result<(), AllocError>
     requires { Valid extension v.now }
-    ensures { OnOk result (out.new ≡ put extension v.now out.old) }
+    ensures { OnOk result (out.new ≡ printed extension v.now out.old) }
 {
     let present = v.sps_extension_present_flag == 1;
-    put_u8(out, 1, v.sps_extension_present_flag)?;
-    put_u8_if(out, present, 1, v.sps_range_extension_flag)?;
-    put_u8_if(out, present, 1, v.sps_multilayer_extension_flag)?;
-    put_u8_if(out, present, 1, v.sps_3d_extension_flag)?;
-    put_u8_if(out, present, 1, v.sps_scc_extension_flag)?;
-    put_u8_if(out, present, 4, v.sps_extension_4bits)?;
-    put_u8_if(
-        out,
+    out.flag("sps_extension_present_flag", v.sps_extension_present_flag)?;
+    out.flag_if(
+        present,
+        "sps_range_extension_flag",
+        v.sps_range_extension_flag,
+    )?;
+    out.flag_if(
+        present,
+        "sps_multilayer_extension_flag",
+        v.sps_multilayer_extension_flag,
+    )?;
+    out.flag_if(present, "sps_3d_extension_flag", v.sps_3d_extension_flag)?;
+    out.flag_if(present, "sps_scc_extension_flag", v.sps_scc_extension_flag)?;
+    out.u8_if(present, "sps_extension_4bits", 4, v.sps_extension_4bits)?;
+    out.flag_if(
         coded_set(v.sps_multilayer_extension_flag),
-        1,
+        "inter_view_mv_vert_constraint_flag",
         v.inter_view_mv_vert_constraint_flag,
     )
 }

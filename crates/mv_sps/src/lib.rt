@@ -1,11 +1,11 @@
-//! Sequence parameter sets (H.265 7.3.2.2.1, F.7.3.2.2.1): a payload is read and written exactly.
+//! Sequence parameter sets (H.265 7.3.2.2.1, F.7.3.2.2.1): a payload is read, written and shown exactly.
 #![tactic(auto)]
 
 mod blocks;
 mod coding;
 mod extension;
-mod head;
 mod laws;
+mod opening;
 mod ordering;
 mod payload;
 mod picture_format;
@@ -13,6 +13,7 @@ mod pictures;
 mod references;
 mod rep_format;
 mod scaling;
+mod shared;
 mod sps;
 mod tools;
 mod vui;
@@ -20,10 +21,10 @@ mod vui;
 pub use blocks::SpsBlocks;
 pub use coding::SpsCoding;
 pub use extension::SpsExtension;
-pub use head::SpsHead;
 pub use laws::sps_laws;
+pub use opening::SpsOpening;
 pub use ordering::{SpsOrdering, SpsSubLayer};
-pub use payload::{read_sps, write_sps};
+pub use payload::{read_sps, show_sps, write_sps};
 pub use picture_format::SpsPictureFormat;
 pub use pictures::SpsPictures;
 pub use references::SpsReferences;

@@ -1,13 +1,12 @@
 ghost use Rattle.std.specs.Prelude.{◌≡◌, ◌≤◌, OnOk};
-ghost use Rattle.mv_syntax.specs.Table.{when, Valid, read, put};
-ghost use Rattle.mv_syntax.specs.Answers.{Fills};
-ghost use Rattle.mv_fields.specs.Faults.{means};
+ghost use Rattle.mv_syntax.specs.Table.{when, Valid};
+ghost use Rattle.mv_syntax.specs.Printed.{printed};
+ghost use Rattle.mv_fields.specs.Reading.{ReadsBy, ReadsAs};
 ghost use Rattle.mv_sps.specs.Ordering.{sub_layer, sub_layers, first_coded, ordering};
 
-use mv_bits::{BitReader, BitWriter};
-use mv_common::{put_u8, put_ue, u8_of};
-use mv_fields::{HeaderFault, ue_within};
-use mv_io::Rule;
+use mv_bits::BitReader;
+use mv_fields::{Fault, Printer, u8_of, ue_within};
+use mv_rules::Rule;
 use std::alloc::{AllocError, Global};
 use std::marker::Model;
 
@@ -38,8 +37,8 @@ impl Model for SpsOrdering {
 }
 
 #[tactic(auto, unfolding(crate::specs::Ordering::sub_layer))]
-fn sub_layer_of(bits: &mut BitReader, i: u8) -> Result<SpsSubLayer, HeaderFault>
-    ensures { Fills (λ v. v) means bits.old bits.new result (read (sub_layer i) bits.old.left) }
+fn sub_layer_of(bits: &mut BitReader) -> Result<SpsSubLayer, Fault<Rule>>
+    ensures { ReadsBy sub_layer bits.old bits.new result }
 {
     Ok(SpsSubLayer {
         sps_max_dec_pic_buffering_minus1: ue_within(bits, Rule::SpsLimit, 15)?,
@@ -48,21 +47,21 @@ fn sub_layer_of(bits: &mut BitReader, i: u8) -> Result<SpsSubLayer, HeaderFault>
     })
 }
 
-#[tactic(auto, using(mv_syntax::proofs::LoopLaws::item_steps), unfolding(crate::specs::Ordering::sub_layers))]
+#[tactic(auto, using(mv_syntax::proofs::LoopLaws::item_steps), unfolding(crate::specs::Ordering::sub_layers, mv_syntax::specs::Loops::each))]
 fn sub_layers_of(
     alloc: Global,
     bits: &mut BitReader,
     first: u8,
     subs: u8,
-) -> Result<Vec<SpsSubLayer>, HeaderFault>
+) -> Result<Vec<SpsSubLayer>, Fault<Rule>>
     requires first { first ≤ subs }
     requires subs { subs ≤ 6 }
-    ensures { Fills (λ v. v.items) means bits.old bits.new result (read (sub_layers first subs) bits.old.left) }
+    ensures { ReadsAs (λ v. v.items) (sub_layers first subs) bits.old bits.new result }
 {
     let end = subs + 1;
     let mut all = Vec::new(alloc);
     for i in first..end {
-        all.push(sub_layer_of(bits, i)?)?;
+        all.push(sub_layer_of(bits)?)?;
     }
     Ok(all)
 }
@@ -76,9 +75,9 @@ fn first_coded(flag: u8, subs: u8) -> u8
 }
 
 #[tactic(auto, unfolding(crate::specs::Ordering::ordering))]
-fn ordering_of(alloc: Global, bits: &mut BitReader, subs: u8) -> Result<SpsOrdering, HeaderFault>
+fn ordering_of(alloc: Global, bits: &mut BitReader, subs: u8) -> Result<SpsOrdering, Fault<Rule>>
     requires { subs ≤ 6 }
-    ensures { Fills (λ v. v) means bits.old bits.new result (read (ordering subs) bits.old.left) }
+    ensures { ReadsBy (ordering subs) bits.old bits.new result }
 {
     let sps_sub_layer_ordering_info_present_flag = u8_of(bits, 1)?;
     let first = first_coded(sps_sub_layer_ordering_info_present_flag, subs);
@@ -94,9 +93,9 @@ pub(crate) fn ordering_if(
     bits: &mut BitReader,
     present: bool,
     subs: u8,
-) -> Result<Option<SpsOrdering>, HeaderFault>
+) -> Result<Option<SpsOrdering>, Fault<Rule>>
     requires { subs ≤ 6 }
-    ensures { Fills (λ v. v) means bits.old bits.new result (read (when present (ordering subs)) bits.old.left) }
+    ensures { ReadsBy (when present (ordering subs)) bits.old bits.new result }
 {
     if !present {
         return Ok(None);
@@ -105,52 +104,64 @@ pub(crate) fn ordering_if(
 }
 
 #[tactic(auto, unfolding(crate::specs::Ordering::sub_layer))]
-fn put_sub_layer(out: &mut BitWriter, v: &SpsSubLayer, i: usize) -> Result<(), AllocError>
-    requires { Valid (sub_layer i) v.now }
-    ensures { OnOk result (out.new ≡ put (sub_layer i) v.now out.old) }
+fn print_sub_layer(out: &mut Printer, v: &SpsSubLayer) -> Result<(), AllocError>
+    requires { Valid sub_layer v.now }
+    ensures { OnOk result (out.new ≡ printed sub_layer v.now out.old) }
 {
-    put_ue(out, v.sps_max_dec_pic_buffering_minus1)?;
-    put_ue(out, v.sps_max_num_reorder_pics)?;
-    put_ue(out, v.sps_max_latency_increase_plus1)
+    out.ue(
+        "sps_max_dec_pic_buffering_minus1",
+        v.sps_max_dec_pic_buffering_minus1,
+    )?;
+    out.ue("sps_max_num_reorder_pics", v.sps_max_num_reorder_pics)?;
+    out.ue(
+        "sps_max_latency_increase_plus1",
+        v.sps_max_latency_increase_plus1,
+    )
 }
 
-#[tactic(auto, using(mv_syntax::proofs::LoopLaws::put_item_steps), unfolding(crate::specs::Ordering::sub_layers))]
-fn put_sub_layers(
-    out: &mut BitWriter,
+#[tactic(auto, using(mv_syntax::proofs::PrintingLoops::print_item_steps), unfolding(crate::specs::Ordering::sub_layers, mv_syntax::specs::Loops::each))]
+fn print_sub_layers(
+    out: &mut Printer,
     all: &[SpsSubLayer],
     first: u8,
     subs: u8,
 ) -> Result<(), AllocError>
     requires { Valid (sub_layers first subs) all.now }
-    ensures { OnOk result (out.new ≡ put (sub_layers first subs) all.now out.old) }
+    ensures { OnOk result (out.new ≡ printed (sub_layers first subs) all.now out.old) }
 {
     for k in 0..all.len() {
-        put_sub_layer(out, &all[k], usize::from(first) + k)?;
+        let outer = out.open(u64::from(first) + k as u64)?;
+        print_sub_layer(out, &all[k])?;
+        out.close(outer);
     }
     Ok(())
 }
 
 #[tactic(auto, unfolding(crate::specs::Ordering::ordering))]
-fn put_ordering(out: &mut BitWriter, v: &SpsOrdering, subs: u8) -> Result<(), AllocError>
+fn print_ordering(out: &mut Printer, v: &SpsOrdering, subs: u8) -> Result<(), AllocError>
     requires { Valid (ordering subs) v.now }
-    ensures { OnOk result (out.new ≡ put (ordering subs) v.now out.old) }
+    ensures { OnOk result (out.new ≡ printed (ordering subs) v.now out.old) }
 {
     let first = first_coded(v.sps_sub_layer_ordering_info_present_flag, subs);
-    put_u8(out, 1, v.sps_sub_layer_ordering_info_present_flag)?;
-    put_sub_layers(out, &v.sub_layers, first, subs)
+    out.flag(
+        "sps_sub_layer_ordering_info_present_flag",
+        v.sps_sub_layer_ordering_info_present_flag,
+    )?;
+    print_sub_layers(out, &v.sub_layers, first, subs)?;
+    Ok(())
 }
 
-pub(crate) fn put_ordering_if(
-    out: &mut BitWriter,
+pub(crate) fn print_ordering_if(
+    out: &mut Printer,
     present: bool,
     v: &Option<SpsOrdering>,
     subs: u8,
 ) -> Result<(), AllocError>
     requires { Valid (when present (ordering subs)) v.now }
-    ensures { OnOk result (out.new ≡ put (when present (ordering subs)) v.now out.old) }
+    ensures { OnOk result (out.new ≡ printed (when present (ordering subs)) v.now out.old) }
 {
     match v {
-        Some(v) => put_ordering(out, v, subs),
+        Some(v) => print_ordering(out, v, subs),
         None => Ok(()),
     }
 }

@@ -1,15 +1,21 @@
-ghost use Rattle.std.specs.Prelude.{◌≡◌, ◌≤◌, IfOk};
-ghost use Rattle.mv_syntax.specs.Bits.{byte_bits};
-ghost use Rattle.mv_syntax.specs.Payload.{payload_bits, read_payload, ValidPayload};
-ghost use Rattle.mv_syntax.specs.Answers.{FillsPayload, AnswersPayloadBy};
-ghost use Rattle.mv_fields.specs.Faults.{means, broken_rule};
-ghost use Rattle.mv_sps.specs.Sps.{has_tail, sps_payload, syntax_rule};
+//! The payload of a sequence parameter set: read, written and shown.
 
-use crate::sps::{Sps, fields_of, put_fields};
-use mv_bits::{BitReader, BitWriter};
-use mv_common::put_payload_end;
-use mv_fields::{HeaderFault, MAX_BYTES, payload_end_of};
-use mv_io::{ReadFault, Rule};
+ghost use Rattle.std.specs.Prelude.{◌≡◌, ◌≤◌, [], ◌++◌, IfOk, OnOk};
+ghost use Rattle.mv_syntax.specs.Bits.{byte_bits};
+ghost use Rattle.mv_syntax.specs.Lines.{text_of};
+ghost use Rattle.mv_syntax.specs.Payload.{ValidPayload, ReadsPayload, CutPayload, payload_bits, payload_lines, read_payload};
+ghost use Rattle.mv_syntax.specs.Printed.{lines};
+ghost use Rattle.mv_syntax.specs.Answers.{FillsPayload};
+ghost use Rattle.mv_rules.specs.declared.rule.Rule.TheVariants.{SpsSyntax};
+ghost use Rattle.mv_fields.specs.Faults.{means};
+ghost use Rattle.mv_fields.specs.Output.{IsText, text_in};
+ghost use Rattle.mv_fields.specs.Reading.{ReadsWhole};
+ghost use Rattle.mv_sps.specs.Sps.{has_tail, sps_payload};
+
+use crate::sps::{Sps, fields_of, print_fields};
+use mv_bits::BitReader;
+use mv_fields::{Fault, MAX_BYTES, Printer, payload_end_of};
+use mv_rules::{ReadFault, Rule};
 use std::alloc::{AllocError, Global};
 
 // Whether a tail stands behind the fields.
@@ -24,12 +30,12 @@ fn payload_of(
     layer: u8,
     vps_sub_layers: u8,
     payload: &[u8],
-) -> Result<Sps, HeaderFault>
+) -> Result<Sps, Fault<Rule>>
     requires { vps_sub_layers ≤ 6 }
     ensures { FillsPayload (λ v. v) means result (read_payload (sps_payload layer vps_sub_layers) (byte_bits payload.now)) }
 {
     if payload.len() > MAX_BYTES {
-        return Err(HeaderFault::Breaks(Rule::SpsLimit));
+        return Err(Fault::Breaks(Rule::SpsLimit));
     }
     let mut bits = BitReader::new(payload);
     let mut value = match fields_of(alloc, &mut bits, layer, vps_sub_layers) {
@@ -58,7 +64,7 @@ pub fn read_sps(
     payload: &[u8],
 ) -> Result<Sps, ReadFault>
     requires { vps_sub_layers ≤ 6 }
-    ensures { AnswersPayloadBy (λ v. v) broken_rule syntax_rule (sps_payload layer vps_sub_layers) (byte_bits payload.now) result }
+    ensures { ReadsWhole (ReadsPayload (sps_payload layer vps_sub_layers) (byte_bits payload.now)) (CutPayload (sps_payload layer vps_sub_layers) (byte_bits payload.now)) SpsSyntax result }
 {
     match payload_of(alloc, layer, vps_sub_layers, payload) {
         Ok(value) => Ok(value),
@@ -79,8 +85,28 @@ pub fn write_sps(
     requires valid { ValidPayload (sps_payload layer vps_sub_layers) sps.now }
     ensures { IfOk result (λ bytes. byte_bits bytes.items ≡ payload_bits (sps_payload layer vps_sub_layers) sps.now) }
 {
-    let mut out = BitWriter::new(alloc);
-    put_fields(&mut out, sps, layer, vps_sub_layers)?;
-    put_payload_end(&mut out, &sps.tail)?;
+    let mut out = Printer::bits(alloc);
+    print_fields(&mut out, sps, layer, vps_sub_layers)?;
+    out.end(&sps.tail)?;
     Ok(out.into_bytes())
+}
+
+/// Shows a sequence parameter set: appends the line of each coded field, in coded order, and of the tail, where it has one,
+/// its number of bits.
+///
+/// `AllocError` where memory runs out.
+pub fn show_sps(
+    out: &mut Printer,
+    layer: u8,
+    vps_sub_layers: u8,
+    sps: &Sps,
+) -> Result<(), AllocError>
+    requires text { IsText out.old }
+    requires subs { vps_sub_layers ≤ 6 }
+    requires valid { ValidPayload (sps_payload layer vps_sub_layers) sps.now }
+    ensures { OnOk result (out.new ≡ lines (text_in out.old ++ text_of (payload_lines (sps_payload layer vps_sub_layers) sps.now)) []) }
+{
+    print_fields(out, sps, layer, vps_sub_layers)?;
+    out.end(&sps.tail)?;
+    Ok(())
 }

@@ -1,14 +1,14 @@
 ghost use Rattle.std.specs.Prelude.{◌≡◌, OnOk};
-ghost use Rattle.mv_syntax.specs.Table.{ue, when, Valid, read, put};
+ghost use Rattle.mv_syntax.specs.Table.{ue, when, Valid};
 ghost use Rattle.mv_syntax.specs.Words.{◌!◌∶◌};
-ghost use Rattle.mv_syntax.specs.Answers.{Fills};
-ghost use Rattle.mv_fields.specs.Faults.{means};
+ghost use Rattle.mv_syntax.specs.Printed.{printed};
+ghost use Rattle.mv_fields.specs.Reading.{ReadsBy};
+ghost use Rattle.mv_rules.specs.declared.rule.Rule.TheVariants.{SpsLimit};
 ghost use Rattle.mv_sps.specs.Format.{no_side, picture_format};
 
-use mv_bits::{BitReader, BitWriter};
-use mv_common::{put_u8, put_u8_if, put_ue, put_ue_if, u8_of, ue_if};
-use mv_fields::{HeaderFault, ue_within, unset_flag_if};
-use mv_io::Rule;
+use mv_bits::BitReader;
+use mv_fields::{Fault, Printer, u8_of, ue_if, ue_within, unset_flag_if};
+use mv_rules::Rule;
 use std::alloc::AllocError;
 
 /// The format of the pictures: their chroma format, size in luma samples, conformance window and bit depths.
@@ -28,19 +28,19 @@ pub struct SpsPictureFormat {
 }
 
 // The next width or height, which breaks the limit rule where it is 0 or over 16,384.
-fn side_of(bits: &mut BitReader) -> Result<u32, HeaderFault>
-    ensures { Fills (λ v. v) means bits.old bits.new result (read (ue ! 36 ∶ no_side) bits.old.left) }
+fn side_of(bits: &mut BitReader) -> Result<u32, Fault<Rule>>
+    ensures { ReadsBy (ue ! SpsLimit ∶ no_side) bits.old bits.new result }
 {
     let value = bits.ue()?;
     if value == 0 || value > 16384 {
-        return Err(HeaderFault::Breaks(Rule::SpsLimit));
+        return Err(Fault::Breaks(Rule::SpsLimit));
     }
     Ok(value)
 }
 
 #[tactic(auto, unfolding(crate::specs::Format::picture_format))]
-fn picture_format_of(bits: &mut BitReader) -> Result<SpsPictureFormat, HeaderFault>
-    ensures { Fills (λ v. v) means bits.old bits.new result (read picture_format bits.old.left) }
+fn picture_format_of(bits: &mut BitReader) -> Result<SpsPictureFormat, Fault<Rule>>
+    ensures { ReadsBy picture_format bits.old bits.new result }
 {
     let chroma_format_idc = ue_within(bits, Rule::SpsLimit, 3)?;
     let separate_colour_plane_flag = unset_flag_if(
@@ -74,34 +74,33 @@ fn picture_format_of(bits: &mut BitReader) -> Result<SpsPictureFormat, HeaderFau
 }
 
 #[tactic(auto, unfolding(crate::specs::Format::picture_format))]
-fn put_picture_format(out: &mut BitWriter, v: &SpsPictureFormat) -> Result<(), AllocError>
+fn print_picture_format(out: &mut Printer, v: &SpsPictureFormat) -> Result<(), AllocError>
     requires { Valid picture_format v.now }
-    ensures { OnOk result (out.new ≡ put picture_format v.now out.old) }
+    ensures { OnOk result (out.new ≡ printed picture_format v.now out.old) }
 {
     let window = v.conformance_window_flag == 1;
-    put_ue(out, v.chroma_format_idc)?;
-    put_u8_if(
-        out,
+    out.ue("chroma_format_idc", v.chroma_format_idc)?;
+    out.flag_if(
         v.chroma_format_idc == 3,
-        1,
+        "separate_colour_plane_flag",
         v.separate_colour_plane_flag,
     )?;
-    put_ue(out, v.pic_width_in_luma_samples)?;
-    put_ue(out, v.pic_height_in_luma_samples)?;
-    put_u8(out, 1, v.conformance_window_flag)?;
-    put_ue_if(out, window, v.conf_win_left_offset)?;
-    put_ue_if(out, window, v.conf_win_right_offset)?;
-    put_ue_if(out, window, v.conf_win_top_offset)?;
-    put_ue_if(out, window, v.conf_win_bottom_offset)?;
-    put_ue(out, v.bit_depth_luma_minus8)?;
-    put_ue(out, v.bit_depth_chroma_minus8)
+    out.ue("pic_width_in_luma_samples", v.pic_width_in_luma_samples)?;
+    out.ue("pic_height_in_luma_samples", v.pic_height_in_luma_samples)?;
+    out.flag("conformance_window_flag", v.conformance_window_flag)?;
+    out.ue_if(window, "conf_win_left_offset", v.conf_win_left_offset)?;
+    out.ue_if(window, "conf_win_right_offset", v.conf_win_right_offset)?;
+    out.ue_if(window, "conf_win_top_offset", v.conf_win_top_offset)?;
+    out.ue_if(window, "conf_win_bottom_offset", v.conf_win_bottom_offset)?;
+    out.ue("bit_depth_luma_minus8", v.bit_depth_luma_minus8)?;
+    out.ue("bit_depth_chroma_minus8", v.bit_depth_chroma_minus8)
 }
 
 pub(crate) fn picture_format_if(
     bits: &mut BitReader,
     present: bool,
-) -> Result<Option<SpsPictureFormat>, HeaderFault>
-    ensures { Fills (λ v. v) means bits.old bits.new result (read (when present picture_format) bits.old.left) }
+) -> Result<Option<SpsPictureFormat>, Fault<Rule>>
+    ensures { ReadsBy (when present picture_format) bits.old bits.new result }
 {
     if !present {
         return Ok(None);
@@ -109,16 +108,16 @@ pub(crate) fn picture_format_if(
     Ok(Some(picture_format_of(bits)?))
 }
 
-pub(crate) fn put_picture_format_if(
-    out: &mut BitWriter,
+pub(crate) fn print_picture_format_if(
+    out: &mut Printer,
     present: bool,
     v: &Option<SpsPictureFormat>,
 ) -> Result<(), AllocError>
     requires { Valid (when present picture_format) v.now }
-    ensures { OnOk result (out.new ≡ put (when present picture_format) v.now out.old) }
+    ensures { OnOk result (out.new ≡ printed (when present picture_format) v.now out.old) }
 {
     match v {
-        Some(v) => put_picture_format(out, v),
+        Some(v) => print_picture_format(out, v),
         None => Ok(()),
     }
 }

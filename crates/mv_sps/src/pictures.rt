@@ -1,17 +1,15 @@
 ghost use Rattle.std.specs.Prelude.{◌≡◌, ◌≤◌, OnOk, IfOk};
-ghost use Rattle.mv_syntax.specs.Table.{ue, Valid, read, put};
-ghost use Rattle.mv_syntax.specs.Words.{◌!◌∶◌, over};
-ghost use Rattle.mv_syntax.specs.Answers.{Fills};
-ghost use Rattle.mv_fields.specs.Faults.{means};
+ghost use Rattle.mv_syntax.specs.Table.{Valid};
+ghost use Rattle.mv_syntax.specs.Printed.{printed};
+ghost use Rattle.mv_fields.specs.Reading.{ReadsBy};
 ghost use Rattle.mv_sps.specs.Pictures.{pictures};
 
-use crate::ordering::{SpsOrdering, ordering_if, put_ordering_if};
-use crate::picture_format::{SpsPictureFormat, picture_format_if, put_picture_format_if};
-use crate::rep_format::{SpsRepFormat, put_rep_format_if, rep_format_if};
-use mv_bits::{BitReader, BitWriter};
-use mv_common::put_ue;
-use mv_fields::{HeaderFault, ue_within};
-use mv_io::Rule;
+use crate::ordering::{SpsOrdering, ordering_if, print_ordering_if};
+use crate::picture_format::{SpsPictureFormat, picture_format_if, print_picture_format_if};
+use crate::rep_format::{SpsRepFormat, print_rep_format_if, rep_format_if};
+use mv_bits::BitReader;
+use mv_fields::{Fault, Printer, ue_within};
+use mv_rules::Rule;
 use std::alloc::{AllocError, Global};
 use std::marker::Model;
 
@@ -44,9 +42,9 @@ pub(crate) fn pictures_of(
     bits: &mut BitReader,
     ext: bool,
     subs: u8,
-) -> Result<SpsPictures, HeaderFault>
+) -> Result<SpsPictures, Fault<Rule>>
     requires { subs ≤ 6 }
-    ensures fills { Fills (λ v. v) means bits.old bits.new result (read (pictures ext subs) bits.old.left) }
+    ensures fills { ReadsBy (pictures ext subs) bits.old bits.new result }
     ensures few { IfOk result (λ v. v.log2_max_pic_order_cnt_lsb_minus4 ≤ 12) }
 {
     let rep_format = rep_format_if(bits, ext)?;
@@ -62,17 +60,21 @@ pub(crate) fn pictures_of(
 }
 
 #[tactic(auto, unfolding(crate::specs::Pictures::pictures))]
-pub(crate) fn put_pictures(
-    out: &mut BitWriter,
+pub(crate) fn print_pictures(
+    out: &mut Printer,
     v: &SpsPictures,
     ext: bool,
     subs: u8,
 ) -> Result<(), AllocError>
     requires { Valid (pictures ext subs) v.now }
-    ensures { OnOk result (out.new ≡ put (pictures ext subs) v.now out.old) }
+    ensures { OnOk result (out.new ≡ printed (pictures ext subs) v.now out.old) }
 {
-    put_rep_format_if(out, ext, &v.rep_format)?;
-    put_picture_format_if(out, !ext, &v.picture_format)?;
-    put_ue(out, v.log2_max_pic_order_cnt_lsb_minus4)?;
-    put_ordering_if(out, !ext, &v.ordering, subs)
+    print_rep_format_if(out, ext, &v.rep_format)?;
+    print_picture_format_if(out, !ext, &v.picture_format)?;
+    out.ue(
+        "log2_max_pic_order_cnt_lsb_minus4",
+        v.log2_max_pic_order_cnt_lsb_minus4,
+    )?;
+    print_ordering_if(out, !ext, &v.ordering, subs)?;
+    Ok(())
 }

@@ -1,15 +1,14 @@
-ghost use Rattle.std.specs.Prelude.{◌≡◌, ◌≤◌, OnOk, IfOk};
-ghost use Rattle.mv_syntax.specs.Table.{ue, Valid, read, put};
-ghost use Rattle.mv_syntax.specs.Words.{◌!◌∶◌, over};
-ghost use Rattle.mv_syntax.specs.Answers.{Fills};
-ghost use Rattle.mv_common.specs.ShortSet.{AreShortArgs};
-ghost use Rattle.mv_fields.specs.Faults.{means};
+ghost use Rattle.std.specs.Prelude.{◌≡◌, ◌≤◌, OnOk};
+ghost use Rattle.mv_syntax.specs.Table.{Valid};
+ghost use Rattle.mv_syntax.specs.Printed.{printed};
+ghost use Rattle.mv_fields.specs.Reading.{ReadsBy, ReadsAs};
+ghost use Rattle.mv_short_sets.specs.ShortSet.{AreShortArgs};
 ghost use Rattle.mv_sps.specs.References.{short_set, short_sets, candidate, candidates, references};
 
-use mv_bits::{BitReader, BitWriter};
-use mv_common::{ShortArgs, ShortSet, put_u8, put_u16, put_ue, put_ue_if, u8_of, u16_of};
-use mv_fields::{HeaderFault, ue_within, ue_within_if};
-use mv_io::Rule;
+use mv_bits::BitReader;
+use mv_fields::{Fault, Printer, u8_of, u16_of, ue_within, ue_within_if, under};
+use mv_rules::Rule;
+use mv_short_sets::{ShortArgs, ShortSet};
 use std::alloc::{AllocError, Global};
 use std::marker::Model;
 
@@ -41,32 +40,29 @@ impl Model for SpsReferences {
 }
 
 /// The next set, behind the sets before it.
-#[tactic(auto, unfolding(crate::specs::References::short_set))]
+#[tactic(auto, using(mv_fields::proofs::Shared::shared_steps), unfolding(crate::specs::References::short_set))]
 fn short_set_of(
     alloc: Global,
     bits: &mut BitReader,
     num: u8,
     i: u8,
     earlier: &[ShortSet],
-) -> Result<ShortSet, HeaderFault>
+) -> Result<ShortSet, Fault<Rule>>
     requires { AreShortArgs i num earlier.now }
-    ensures { Fills (λ v. v) means bits.old bits.new result (read (short_set num i earlier.now) bits.old.left) }
+    ensures { ReadsBy (short_set num i earlier.now) bits.old bits.new result }
 {
     let args = ShortArgs {
         idx: i,
         num,
         earlier,
     };
-    match ShortSet::read(alloc, bits, &args) {
-        Ok(value) => Ok(value),
-        Err(fault) => Err(HeaderFault::under(Rule::SpsLimit, fault)),
-    }
+    under(Rule::SpsLimit, ShortSet::read(alloc, bits, &args))
 }
 
 #[tactic(auto, using(mv_syntax::proofs::LoopLaws::item_steps, crate::proofs::Sets::set_pushed), unfolding(crate::specs::References::short_sets))]
-fn short_sets_of(alloc: Global, bits: &mut BitReader, num: u8) -> Result<Vec<ShortSet>, HeaderFault>
+fn short_sets_of(alloc: Global, bits: &mut BitReader, num: u8) -> Result<Vec<ShortSet>, Fault<Rule>>
     requires { num ≤ 64 }
-    ensures { Fills (λ v. v.items) means bits.old bits.new result (read (short_sets num) bits.old.left) }
+    ensures { ReadsAs (λ v. v.items) (short_sets num) bits.old bits.new result }
 {
     let mut sets = Vec::new(alloc);
     for i in 0..num {
@@ -76,29 +72,29 @@ fn short_sets_of(alloc: Global, bits: &mut BitReader, num: u8) -> Result<Vec<Sho
 }
 
 #[tactic(auto, unfolding(crate::specs::References::candidate))]
-fn candidate_of(bits: &mut BitReader, lsb_bits: u8, i: u32) -> Result<(u16, u8), HeaderFault>
+fn candidate_of(bits: &mut BitReader, lsb_bits: u8) -> Result<(u16, u8), Fault<Rule>>
     requires { lsb_bits ≤ 16 }
-    ensures { Fills (λ v. v) means bits.old bits.new result (read (candidate lsb_bits i) bits.old.left) }
+    ensures { ReadsBy (candidate lsb_bits) bits.old bits.new result }
 {
     let lsb = u16_of(bits, lsb_bits)?;
     let used = u8_of(bits, 1)?;
     Ok((lsb, used))
 }
 
-#[tactic(auto, using(mv_syntax::proofs::LoopLaws::column_steps), unfolding(crate::specs::References::candidates))]
+#[tactic(auto, using(mv_syntax::proofs::LoopLaws::column_steps), unfolding(crate::specs::References::candidates, mv_syntax::specs::Loops::each))]
 fn candidates_of(
     alloc: Global,
     bits: &mut BitReader,
     lsb_bits: u8,
     n: u32,
-) -> Result<(Vec<u16>, Vec<u8>), HeaderFault>
+) -> Result<(Vec<u16>, Vec<u8>), Fault<Rule>>
     requires { lsb_bits ≤ 16 }
-    ensures { Fills (λ v. (v.0.items, v.1.items)) means bits.old bits.new result (read (candidates lsb_bits n) bits.old.left) }
+    ensures { ReadsAs (λ v. (v.0.items, v.1.items)) (candidates lsb_bits n) bits.old bits.new result }
 {
     let mut lsbs = Vec::new(alloc);
     let mut used = Vec::new(alloc);
     for i in 0..n {
-        let fields = candidate_of(bits, lsb_bits, i)?;
+        let fields = candidate_of(bits, lsb_bits)?;
         lsbs.push(fields.0)?;
         used.push(fields.1)?;
     }
@@ -110,9 +106,9 @@ pub(crate) fn references_of(
     alloc: Global,
     bits: &mut BitReader,
     lsb_bits: u8,
-) -> Result<SpsReferences, HeaderFault>
+) -> Result<SpsReferences, Fault<Rule>>
     requires { lsb_bits ≤ 16 }
-    ensures { Fills (λ v. v) means bits.old bits.new result (read (references lsb_bits) bits.old.left) }
+    ensures { ReadsBy (references lsb_bits) bits.old bits.new result }
 {
     let num_short_term_ref_pic_sets = ue_within(bits, Rule::SpsLimit, 64)?;
     let st_ref_pic_set = short_sets_of(alloc, bits, num_short_term_ref_pic_sets as u8)?;
@@ -135,58 +131,53 @@ pub(crate) fn references_of(
     })
 }
 
-#[tactic(auto, using(mv_fields::proofs::Shared::put_steps), unfolding(crate::specs::References::short_set))]
-fn put_short_set(
-    out: &mut BitWriter,
+#[tactic(auto, unfolding(crate::specs::References::short_set))]
+fn print_short_set(
+    out: &mut Printer,
     v: &ShortSet,
     num: u8,
     i: u8,
     earlier: &[ShortSet],
 ) -> Result<(), AllocError>
-    requires args { AreShortArgs i num earlier.now }
-    requires valid { Valid (short_set num i earlier.now) v.now }
-    ensures { OnOk result (out.new ≡ put (short_set num i earlier.now) v.now out.old) }
+    requires { Valid (short_set num i earlier.now) v.now }
+    ensures { OnOk result (out.new ≡ printed (short_set num i earlier.now) v.now out.old) }
 {
     let args = ShortArgs {
         idx: i,
         num,
         earlier,
     };
-    v.write(out, &args)
+    v.print(out, &args)
 }
 
-#[tactic(auto, using(mv_syntax::proofs::LoopLaws::put_item_steps), unfolding(crate::specs::References::short_sets))]
-fn put_short_sets(out: &mut BitWriter, sets: &[ShortSet], num: u8) -> Result<(), AllocError>
+#[tactic(auto, using(mv_syntax::proofs::PrintingLoops::print_item_steps), unfolding(crate::specs::References::short_sets))]
+fn print_short_sets(out: &mut Printer, sets: &[ShortSet], num: u8) -> Result<(), AllocError>
     requires few { num ≤ 64 }
     requires valid { Valid (short_sets num) sets.now }
-    ensures { OnOk result (out.new ≡ put (short_sets num) sets.now out.old) }
+    ensures { OnOk result (out.new ≡ printed (short_sets num) sets.now out.old) }
 {
     for i in 0..num {
         let k = usize::from(i);
-        put_short_set(out, &sets[k], num, i, &sets[..k])?;
+        let outer = out.open(u64::from(i))?;
+        print_short_set(out, &sets[k], num, i, &sets[..k])?;
+        out.close(outer);
     }
     Ok(())
 }
 
 #[tactic(auto, unfolding(crate::specs::References::candidate))]
-fn put_candidate(
-    out: &mut BitWriter,
-    lsb: u16,
-    used: u8,
-    lsb_bits: u8,
-    i: usize,
-) -> Result<(), AllocError>
+fn print_candidate(out: &mut Printer, lsb: u16, used: u8, lsb_bits: u8) -> Result<(), AllocError>
     requires width { lsb_bits ≤ 16 }
-    requires valid { Valid (candidate lsb_bits i) (lsb, used) }
-    ensures { OnOk result (out.new ≡ put (candidate lsb_bits i) (lsb, used) out.old) }
+    requires valid { Valid (candidate lsb_bits) (lsb, used) }
+    ensures { OnOk result (out.new ≡ printed (candidate lsb_bits) (lsb, used) out.old) }
 {
-    put_u16(out, lsb_bits, lsb)?;
-    put_u8(out, 1, used)
+    out.u16("lt_ref_pic_poc_lsb_sps", lsb_bits, lsb)?;
+    out.flag("used_by_curr_pic_lt_sps_flag", used)
 }
 
-#[tactic(auto, using(mv_syntax::proofs::LoopLaws::put_column_steps), unfolding(crate::specs::References::candidates))]
-fn put_candidates(
-    out: &mut BitWriter,
+#[tactic(auto, using(mv_syntax::proofs::PrintingLoops::print_column_steps), unfolding(crate::specs::References::candidates, mv_syntax::specs::Loops::each))]
+fn print_candidates(
+    out: &mut Printer,
     lsbs: &[u16],
     used: &[u8],
     lsb_bits: u8,
@@ -194,35 +185,45 @@ fn put_candidates(
 ) -> Result<(), AllocError>
     requires width { lsb_bits ≤ 16 }
     requires valid { Valid (candidates lsb_bits n) (lsbs.now, used.now) }
-    ensures { OnOk result (out.new ≡ put (candidates lsb_bits n) (lsbs.now, used.now) out.old) }
+    ensures { OnOk result (out.new ≡ printed (candidates lsb_bits n) (lsbs.now, used.now) out.old) }
 {
     for i in 0..lsbs.len() {
-        put_candidate(out, lsbs[i], used[i], lsb_bits, i)?;
+        let outer = out.open(i as u64)?;
+        print_candidate(out, lsbs[i], used[i], lsb_bits)?;
+        out.close(outer);
     }
     Ok(())
 }
 
 #[tactic(auto, unfolding(crate::specs::References::references))]
-pub(crate) fn put_references(
-    out: &mut BitWriter,
+pub(crate) fn print_references(
+    out: &mut Printer,
     v: &SpsReferences,
     lsb_bits: u8,
 ) -> Result<(), AllocError>
     requires width { lsb_bits ≤ 16 }
     requires valid { Valid (references lsb_bits) v.now }
-    ensures { OnOk result (out.new ≡ put (references lsb_bits) v.now out.old) }
+    ensures { OnOk result (out.new ≡ printed (references lsb_bits) v.now out.old) }
 {
     let n = v.num_long_term_ref_pics_sps.unwrap_or(0);
     let present = v.long_term_ref_pics_present_flag == 1;
-    put_ue(out, v.num_short_term_ref_pic_sets)?;
-    put_short_sets(out, &v.st_ref_pic_set, v.num_short_term_ref_pic_sets as u8)?;
-    put_u8(out, 1, v.long_term_ref_pics_present_flag)?;
-    put_ue_if(out, present, v.num_long_term_ref_pics_sps)?;
-    put_candidates(
+    out.ue("num_short_term_ref_pic_sets", v.num_short_term_ref_pic_sets)?;
+    print_short_sets(out, &v.st_ref_pic_set, v.num_short_term_ref_pic_sets as u8)?;
+    out.flag(
+        "long_term_ref_pics_present_flag",
+        v.long_term_ref_pics_present_flag,
+    )?;
+    out.ue_if(
+        present,
+        "num_long_term_ref_pics_sps",
+        v.num_long_term_ref_pics_sps,
+    )?;
+    print_candidates(
         out,
         &v.lt_ref_pic_poc_lsb_sps,
         &v.used_by_curr_pic_lt_sps_flag,
         lsb_bits,
         n,
-    )
+    )?;
+    Ok(())
 }

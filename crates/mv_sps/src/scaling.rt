@@ -1,13 +1,14 @@
 ghost use Rattle.std.specs.Prelude.{◌≡◌, OnOk};
-ghost use Rattle.mv_syntax.specs.Table.{Valid, read, put};
-ghost use Rattle.mv_syntax.specs.Answers.{Fills};
-ghost use Rattle.mv_fields.specs.Faults.{means};
+ghost use Rattle.mv_syntax.specs.Table.{Valid};
+ghost use Rattle.mv_syntax.specs.Printed.{printed};
+ghost use Rattle.mv_fields.specs.Reading.{ReadsBy};
 ghost use Rattle.mv_sps.specs.Scaling.{scaling};
 
-use mv_bits::{BitReader, BitWriter};
-use mv_common::{ScalingLists, coded_set, put_u8, put_u8_if, u8_if, u8_of};
-use mv_fields::{HeaderFault, put_scaling_lists_if, scaling_lists_if};
-use mv_io::Rule;
+use crate::shared::{print_scaling_lists_if, scaling_lists_if};
+use mv_bits::BitReader;
+use mv_common::ScalingLists;
+use mv_fields::{Fault, Printer, coded_set, u8_if, u8_of};
+use mv_rules::Rule;
 use std::alloc::{AllocError, Global};
 use std::marker::Model;
 
@@ -40,8 +41,8 @@ pub(crate) fn scaling_of(
     alloc: Global,
     bits: &mut BitReader,
     ext: bool,
-) -> Result<SpsScaling, HeaderFault>
-    ensures { Fills (λ v. v) means bits.old bits.new result (read (scaling ext) bits.old.left) }
+) -> Result<SpsScaling, Fault<Rule>>
+    ensures { ReadsBy (scaling ext) bits.old bits.new result }
 {
     let scaling_list_enabled_flag = u8_of(bits, 1)?;
     let enabled = scaling_list_enabled_flag == 1;
@@ -53,7 +54,6 @@ pub(crate) fn scaling_of(
         alloc,
         bits,
         coded_set(sps_scaling_list_data_present_flag),
-        Rule::SpsLimit,
     )?;
     Ok(SpsScaling {
         scaling_list_enabled_flag,
@@ -65,21 +65,30 @@ pub(crate) fn scaling_of(
 }
 
 #[tactic(auto, unfolding(crate::specs::Scaling::scaling))]
-pub(crate) fn put_scaling(out: &mut BitWriter, v: &SpsScaling, ext: bool) -> Result<(), AllocError>
+pub(crate) fn print_scaling(out: &mut Printer, v: &SpsScaling, ext: bool) -> Result<(), AllocError>
     requires { Valid (scaling ext) v.now }
-    ensures { OnOk result (out.new ≡ put (scaling ext) v.now out.old) }
+    ensures { OnOk result (out.new ≡ printed (scaling ext) v.now out.old) }
 {
     let enabled = v.scaling_list_enabled_flag == 1;
     let infer = coded_set(v.sps_infer_scaling_list_flag);
     let present = coded_set(v.sps_scaling_list_data_present_flag);
-    put_u8(out, 1, v.scaling_list_enabled_flag)?;
-    put_u8_if(out, enabled && ext, 1, v.sps_infer_scaling_list_flag)?;
-    put_u8_if(out, infer, 6, v.sps_scaling_list_ref_layer_id)?;
-    put_u8_if(
-        out,
+    out.flag("scaling_list_enabled_flag", v.scaling_list_enabled_flag)?;
+    out.flag_if(
+        enabled && ext,
+        "sps_infer_scaling_list_flag",
+        v.sps_infer_scaling_list_flag,
+    )?;
+    out.u8_if(
+        infer,
+        "sps_scaling_list_ref_layer_id",
+        6,
+        v.sps_scaling_list_ref_layer_id,
+    )?;
+    out.flag_if(
         enabled && !infer,
-        1,
+        "sps_scaling_list_data_present_flag",
         v.sps_scaling_list_data_present_flag,
     )?;
-    put_scaling_lists_if(out, present, Rule::SpsLimit, &v.scaling_list_data)
+    print_scaling_lists_if(out, present, &v.scaling_list_data)?;
+    Ok(())
 }

@@ -1,17 +1,18 @@
 ghost use Rattle.std.specs.Prelude.{◌≡◌, ◌≤◌, OnOk};
-ghost use Rattle.mv_syntax.specs.Table.{Valid, read, put};
-ghost use Rattle.mv_syntax.specs.Answers.{Fills};
-ghost use Rattle.mv_fields.specs.Faults.{means};
-ghost use Rattle.mv_sps.specs.Head.{subs_of};
-ghost use Rattle.mv_sps.specs.Sps.{last_parts, sps_fields};
+ghost use Rattle.mv_syntax.specs.Table.{Valid};
+ghost use Rattle.mv_syntax.specs.Printed.{printed};
+ghost use Rattle.mv_fields.specs.Reading.{ReadsAs};
+ghost use Rattle.mv_sps.specs.Opening.{subs_of};
+ghost use Rattle.mv_sps.specs.Sps.{ending, sps_fields};
 
-use crate::coding::{SpsCoding, coding_of, put_coding};
-use crate::extension::{SpsExtension, extension_of, put_extension};
-use crate::head::{SpsHead, head_of, is_ext, put_head, subs_of};
-use crate::pictures::{SpsPictures, pictures_of, put_pictures};
-use crate::vui::{SpsVui, put_usability, usability_of};
-use mv_bits::{BitReader, BitWriter};
-use mv_fields::HeaderFault;
+use crate::coding::{SpsCoding, coding_of, print_coding};
+use crate::extension::{SpsExtension, extension_of, print_extension};
+use crate::opening::{SpsOpening, is_ext, opening_of, print_opening, subs_of};
+use crate::pictures::{SpsPictures, pictures_of, print_pictures};
+use crate::vui::{SpsVui, print_usability, usability_of};
+use mv_bits::BitReader;
+use mv_fields::{Fault, Printer};
+use mv_rules::Rule;
 use std::alloc::{AllocError, Global};
 use std::marker::Model;
 
@@ -19,7 +20,7 @@ use std::marker::Model;
 /// `None`. A contract sees the fields, and beside them the tail.
 #[derive(Debug, Drop)]
 pub struct Sps {
-    pub head: SpsHead,
+    pub opening: SpsOpening,
     pub pictures: SpsPictures,
     pub coding: SpsCoding,
     pub vui: SpsVui,
@@ -36,7 +37,7 @@ impl Model for Sps {
 
     ghost view = { λ s. (
       record {
-        head = s.head;
+        opening = s.opening;
         pictures = s.pictures;
         coding = s.coding;
         vui = s.vui;
@@ -46,14 +47,14 @@ impl Model for Sps {
     ) };
 }
 
-#[tactic(auto, unfolding(crate::specs::Sps::last_parts))]
-fn last_parts_of(
+#[tactic(auto, unfolding(crate::specs::Sps::ending))]
+fn ending_of(
     alloc: Global,
     bits: &mut BitReader,
     subs: u8,
-) -> Result<(SpsVui, SpsExtension), HeaderFault>
+) -> Result<(SpsVui, SpsExtension), Fault<Rule>>
     requires { subs ≤ 6 }
-    ensures { Fills (λ v. (v.0, v.1)) means bits.old bits.new result (read (last_parts subs) bits.old.left) }
+    ensures { ReadsAs (λ v. (v.0, v.1)) (ending subs) bits.old bits.new result }
 {
     let vui = usability_of(alloc, bits, subs)?;
     let extension = extension_of(bits)?;
@@ -61,51 +62,52 @@ fn last_parts_of(
 }
 
 // The fields, with no tail yet.
-#[tactic(auto, unfolding(crate::specs::Sps::sps_fields))]
+#[tactic(auto, unfolding(crate::specs::Sps::sps_fields, crate::specs::Sps::behind_opening))]
 pub(crate) fn fields_of(
     alloc: Global,
     bits: &mut BitReader,
     layer: u8,
     vps_sub_layers: u8,
-) -> Result<Sps, HeaderFault>
+) -> Result<Sps, Fault<Rule>>
     requires { vps_sub_layers ≤ 6 }
-    ensures { Fills (λ v. v.0) means bits.old bits.new result (read (sps_fields layer vps_sub_layers) bits.old.left) }
+    ensures { ReadsAs (λ v. v.0) (sps_fields layer vps_sub_layers) bits.old bits.new result }
 {
-    let head = head_of(alloc, bits, layer, vps_sub_layers)?;
-    let ext = is_ext(layer, head.sps_max_sub_layers_minus1);
-    let subs = subs_of(layer, vps_sub_layers, head.sps_max_sub_layers_minus1);
+    let opening = opening_of(alloc, bits, layer, vps_sub_layers)?;
+    let ext = is_ext(layer, opening.sps_max_sub_layers_minus1);
+    let subs = subs_of(layer, vps_sub_layers, opening.sps_max_sub_layers_minus1);
     let pictures = pictures_of(alloc, bits, ext, subs)?;
     let lsb_bits = pictures.log2_max_pic_order_cnt_lsb_minus4 as u8 + 4;
     let coding = coding_of(alloc, bits, ext, lsb_bits)?;
-    let last = last_parts_of(alloc, bits, subs)?;
+    let (vui, extension) = ending_of(alloc, bits, subs)?;
     Ok(Sps {
-        head,
+        opening,
         pictures,
         coding,
-        vui: last.0,
-        extension: last.1,
+        vui,
+        extension,
         tail: None,
     })
 }
 
-#[tactic(auto, unfolding(crate::specs::Sps::sps_fields, crate::specs::Sps::last_parts))]
-pub(crate) fn put_fields(
-    out: &mut BitWriter,
+#[tactic(auto, unfolding(crate::specs::Sps::sps_fields, crate::specs::Sps::behind_opening, crate::specs::Sps::ending))]
+pub(crate) fn print_fields(
+    out: &mut Printer,
     v: &Sps,
     layer: u8,
     vps_sub_layers: u8,
 ) -> Result<(), AllocError>
-    requires few { subs_of layer vps_sub_layers v.now.0.head.sps_max_sub_layers_minus1 ≤ 6 }
+    requires few { subs_of layer vps_sub_layers v.now.0.opening.sps_max_sub_layers_minus1 ≤ 6 }
     requires lsb { v.now.0.pictures.log2_max_pic_order_cnt_lsb_minus4 ≤ 12 }
     requires valid { Valid (sps_fields layer vps_sub_layers) v.now.0 }
-    ensures { OnOk result (out.new ≡ put (sps_fields layer vps_sub_layers) v.now.0 out.old) }
+    ensures { OnOk result (out.new ≡ printed (sps_fields layer vps_sub_layers) v.now.0 out.old) }
 {
-    let ext = is_ext(layer, v.head.sps_max_sub_layers_minus1);
-    let subs = subs_of(layer, vps_sub_layers, v.head.sps_max_sub_layers_minus1);
+    let ext = is_ext(layer, v.opening.sps_max_sub_layers_minus1);
+    let subs = subs_of(layer, vps_sub_layers, v.opening.sps_max_sub_layers_minus1);
     let lsb_bits = v.pictures.log2_max_pic_order_cnt_lsb_minus4 as u8 + 4;
-    put_head(out, &v.head, layer, vps_sub_layers)?;
-    put_pictures(out, &v.pictures, ext, subs)?;
-    put_coding(out, &v.coding, ext, lsb_bits)?;
-    put_usability(out, &v.vui, subs)?;
-    put_extension(out, &v.extension)
+    print_opening(out, &v.opening, layer, vps_sub_layers)?;
+    print_pictures(out, &v.pictures, ext, subs)?;
+    print_coding(out, &v.coding, ext, lsb_bits)?;
+    print_usability(out, &v.vui, subs)?;
+    print_extension(out, &v.extension)?;
+    Ok(())
 }

@@ -1,12 +1,12 @@
 ghost use Rattle.std.specs.Prelude.{◌≡◌, OnOk};
-ghost use Rattle.mv_syntax.specs.Table.{Valid, read, put};
-ghost use Rattle.mv_syntax.specs.Answers.{Fills};
-ghost use Rattle.mv_fields.specs.Faults.{means};
+ghost use Rattle.mv_syntax.specs.Table.{Valid};
+ghost use Rattle.mv_syntax.specs.Printed.{printed};
+ghost use Rattle.mv_fields.specs.Reading.{ReadsBy};
 ghost use Rattle.mv_sps.specs.Tools.{tools};
 
-use mv_bits::{BitReader, BitWriter};
-use mv_common::{put_u8, put_u8_if, put_ue_if, u8_if, u8_of, ue_if};
-use mv_fields::HeaderFault;
+use mv_bits::BitReader;
+use mv_fields::{Fault, Printer, u8_if, u8_of, ue_if};
+use mv_rules::Rule;
 use std::alloc::AllocError;
 
 /// Which coding tools are on: asymmetric partitions, sample adaptive offset, and samples coded as they are (PCM).
@@ -23,8 +23,8 @@ pub struct SpsTools {
 }
 
 #[tactic(auto, unfolding(crate::specs::Tools::tools))]
-pub(crate) fn tools_of(bits: &mut BitReader) -> Result<SpsTools, HeaderFault>
-    ensures { Fills (λ v. v) means bits.old bits.new result (read tools bits.old.left) }
+pub(crate) fn tools_of(bits: &mut BitReader) -> Result<SpsTools, Fault<Rule>>
+    ensures { ReadsBy tools bits.old bits.new result }
 {
     let amp_enabled_flag = u8_of(bits, 1)?;
     let sample_adaptive_offset_enabled_flag = u8_of(bits, 1)?;
@@ -48,17 +48,42 @@ pub(crate) fn tools_of(bits: &mut BitReader) -> Result<SpsTools, HeaderFault>
 }
 
 #[tactic(auto, unfolding(crate::specs::Tools::tools))]
-pub(crate) fn put_tools(out: &mut BitWriter, v: &SpsTools) -> Result<(), AllocError>
+pub(crate) fn print_tools(out: &mut Printer, v: &SpsTools) -> Result<(), AllocError>
     requires { Valid tools v.now }
-    ensures { OnOk result (out.new ≡ put tools v.now out.old) }
+    ensures { OnOk result (out.new ≡ printed tools v.now out.old) }
 {
     let pcm = v.pcm_enabled_flag == 1;
-    put_u8(out, 1, v.amp_enabled_flag)?;
-    put_u8(out, 1, v.sample_adaptive_offset_enabled_flag)?;
-    put_u8(out, 1, v.pcm_enabled_flag)?;
-    put_u8_if(out, pcm, 4, v.pcm_sample_bit_depth_luma_minus1)?;
-    put_u8_if(out, pcm, 4, v.pcm_sample_bit_depth_chroma_minus1)?;
-    put_ue_if(out, pcm, v.log2_min_pcm_luma_coding_block_size_minus3)?;
-    put_ue_if(out, pcm, v.log2_diff_max_min_pcm_luma_coding_block_size)?;
-    put_u8_if(out, pcm, 1, v.pcm_loop_filter_disabled_flag)
+    out.flag("amp_enabled_flag", v.amp_enabled_flag)?;
+    out.flag(
+        "sample_adaptive_offset_enabled_flag",
+        v.sample_adaptive_offset_enabled_flag,
+    )?;
+    out.flag("pcm_enabled_flag", v.pcm_enabled_flag)?;
+    out.u8_if(
+        pcm,
+        "pcm_sample_bit_depth_luma_minus1",
+        4,
+        v.pcm_sample_bit_depth_luma_minus1,
+    )?;
+    out.u8_if(
+        pcm,
+        "pcm_sample_bit_depth_chroma_minus1",
+        4,
+        v.pcm_sample_bit_depth_chroma_minus1,
+    )?;
+    out.ue_if(
+        pcm,
+        "log2_min_pcm_luma_coding_block_size_minus3",
+        v.log2_min_pcm_luma_coding_block_size_minus3,
+    )?;
+    out.ue_if(
+        pcm,
+        "log2_diff_max_min_pcm_luma_coding_block_size",
+        v.log2_diff_max_min_pcm_luma_coding_block_size,
+    )?;
+    out.flag_if(
+        pcm,
+        "pcm_loop_filter_disabled_flag",
+        v.pcm_loop_filter_disabled_flag,
+    )
 }

@@ -1,13 +1,14 @@
 ghost use Rattle.std.specs.Prelude.{◌≡◌, ◌≤◌, OnOk};
-ghost use Rattle.mv_syntax.specs.Table.{Valid, read, put};
-ghost use Rattle.mv_syntax.specs.Answers.{Fills};
-ghost use Rattle.mv_fields.specs.Faults.{means};
+ghost use Rattle.mv_syntax.specs.Table.{Valid};
+ghost use Rattle.mv_syntax.specs.Printed.{printed};
+ghost use Rattle.mv_fields.specs.Reading.{ReadsBy};
 ghost use Rattle.mv_sps.specs.Usability.{usability};
 
-use mv_bits::{BitReader, BitWriter};
-use mv_common::{Vui, put_u8, u8_of};
-use mv_fields::{HeaderFault, put_vui_if, vui_if};
-use mv_io::Rule;
+use crate::shared::{print_vui_if, vui_if};
+use mv_bits::BitReader;
+use mv_common::Vui;
+use mv_fields::{Fault, Printer, u8_of};
+use mv_rules::Rule;
 use std::alloc::{AllocError, Global};
 use std::marker::Model;
 
@@ -34,18 +35,12 @@ pub(crate) fn usability_of(
     alloc: Global,
     bits: &mut BitReader,
     subs: u8,
-) -> Result<SpsVui, HeaderFault>
+) -> Result<SpsVui, Fault<Rule>>
     requires { subs ≤ 6 }
-    ensures { Fills (λ v. v) means bits.old bits.new result (read (usability subs) bits.old.left) }
+    ensures { ReadsBy (usability subs) bits.old bits.new result }
 {
     let vui_parameters_present_flag = u8_of(bits, 1)?;
-    let vui_parameters = vui_if(
-        alloc,
-        bits,
-        vui_parameters_present_flag == 1,
-        Rule::SpsLimit,
-        subs,
-    )?;
+    let vui_parameters = vui_if(alloc, bits, vui_parameters_present_flag == 1, subs)?;
     Ok(SpsVui {
         vui_parameters_present_flag,
         vui_parameters,
@@ -53,17 +48,17 @@ pub(crate) fn usability_of(
 }
 
 #[tactic(auto, unfolding(crate::specs::Usability::usability))]
-pub(crate) fn put_usability(out: &mut BitWriter, v: &SpsVui, subs: u8) -> Result<(), AllocError>
+pub(crate) fn print_usability(out: &mut Printer, v: &SpsVui, subs: u8) -> Result<(), AllocError>
     requires subs { subs ≤ 6 }
     requires valid { Valid (usability subs) v.now }
-    ensures { OnOk result (out.new ≡ put (usability subs) v.now out.old) }
+    ensures { OnOk result (out.new ≡ printed (usability subs) v.now out.old) }
 {
-    put_u8(out, 1, v.vui_parameters_present_flag)?;
-    put_vui_if(
+    out.flag("vui_parameters_present_flag", v.vui_parameters_present_flag)?;
+    print_vui_if(
         out,
         v.vui_parameters_present_flag == 1,
-        Rule::SpsLimit,
         &v.vui_parameters,
         subs,
-    )
+    )?;
+    Ok(())
 }

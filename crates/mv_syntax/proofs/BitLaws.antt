@@ -1,11 +1,10 @@
 -- The laws of the bit codes: what was printed reads back before any rest, what reads was printed and is in range,
 -- and a reading that fails is short exactly where no code stands.
-use Rattle.std.proofs.Common.{◌≡◌, ℕ, zero, suc, ◌+◌, ◌-◌, ◌*◌, ◌/◌, ◌%◌, ◌^◌, ◌<◌, ◌≤◌, ◌⊎◌, Bool, true, false, cond, nat_eq, List, [], ◌∷◌, ◌++◌, length, replicate, ℤ, pos, negsuc, Result, Ok, Err, refl, sym, ap, ◌∙◌, arith, ◌<ℤ◌, ap₂, subst, inl, inr, lit<, mod-lt, mod-eq_of_lt, pow-suc, add-mul, mul_assoc, pow_mono, lt-ltb, le-ltb, suc-le-suc, le_antisymm, append_assoc, length-append, add-one, neg_ℤ, not, ◌||◌, ◌≢◌, ne_eqb, get_or}
+use Rattle.std.proofs.Common.{◌≡◌, ℕ, zero, suc, ◌+◌, ◌-◌, ◌*◌, ◌/◌, ◌%◌, ◌^◌, ◌<◌, ◌≤◌, ◌⊎◌, Bool, true, false, cond, nat_eq, List, [], ◌∷◌, ◌++◌, length, replicate, ℤ, pos, negsuc, Result, Ok, Err, refl, sym, ap, ◌∙◌, arith, ◌<ℤ◌, ap₂, subst, inl, inr, lit<, mod-lt, mod-eq_of_lt, pow-suc, add-mul, mul_assoc, pow_mono, lt-ltb, le-ltb, suc-le-suc, le_antisymm, append_assoc, length-append, add-one, neg_ℤ, not, ◌||◌, ◌≢◌, ne_eqb}
 use Rattle.std.proofs.lemmas.Int.{ints}
 use Rattle.std.proofs.lemmas.Bool.{cases_lt}
 use Rattle.std.proofs.lemmas.List.{length-replicate}
 use Rattle.std.specs.Int.{bit_at}
-use Rattle.std.specs.List.{list_any}
 use Rattle.std.proofs.lemmas.Nat.{mod-pow-add, shr_split, shr_high, pow_pos}
 use Rattle.std.proofs.lemmas.Nat.Bits.{bit_at_cat_low, bit_at_cat_high, bit_at-zero}
 use Rattle.mv_syntax.specs.Bits.{Fault, short, ◌>>=◌, kept, bit, u_bits, take_bits, halvings, ue_zeros, ue_bits, take_ue_from, take_ue, HasNoUe, se_value, se_code, se_bits, take_se, align_bits, trailing_bits, has_one, byte_bits}
@@ -41,7 +40,7 @@ u_bits-same (suc n) v w h =
     ap₂ (λ x rest. nat_eq x 1 ∷ rest) (h n (omega arith)) (u_bits-same n v w (λ i k. h i (omega arith)))
 
 -- the next bit above the n low ones
-mod-suc_bits : (n v : ℕ) → v % 2 ^ suc n ≡ bit_at v n * 2 ^ n + v % 2 ^ n
+pub mod-suc_bits : (n v : ℕ) → v % 2 ^ suc n ≡ bit_at v n * 2 ^ n + v % 2 ^ n
 mod-suc_bits n v =
     let e : 1 + n ≡ suc n = omega arith in
     subst (λ k. v % 2 ^ k ≡ v / 2 ^ n % 2 * 2 ^ n + v % 2 ^ n) e (mod-pow-add v 1 n)
@@ -490,12 +489,3 @@ has_one-u_bits zero v = let e : v % 2 ^ 0 ≡ 0 = omega arith in rw e refl
 has_one-u_bits (suc n) v =
     top_or_low (bit_at v n) (v % 2 ^ n) (2 ^ n) (has_one (u_bits n v)) (mod-lt (v / 2 ^ n) (lit< tt)) (pow_pos n) (has_one-u_bits n v)
     ∙ ap (λ w. not (nat_eq w 0)) (sym (mod-suc_bits n v))
-
--- a set bit among those of bytes is in one that is not 0
-pub has_one-byte_bits : (bytes : List ℕ) → ((i : ℕ) → get_or bytes i 0 < 256) → has_one (byte_bits bytes) ≡ list_any (λ byte. not (nat_eq byte 0)) bytes
-unfolding has_one byte_bits
-has_one-byte_bits [] h = refl
-has_one-byte_bits (byte ∷ bytes) h =
-    let low : byte % 2 ^ 8 ≡ byte = mod-eq_of_lt (h 0) in
-    has_one-append (u_bits 8 byte) (byte_bits bytes)
-    ∙ ap₂ (λ a b. a || b) (has_one-u_bits 8 byte ∙ ap (λ n. not (nat_eq n 0)) low) (has_one-byte_bits bytes (λ i. h (suc i)))

@@ -4,12 +4,13 @@ use Rattle.mv_syntax.specs.Bits.{short, breaks, u_bits, take_bits}
 use Rattle.mv_syntax.specs.Table.{Table, u, named, ◌>>=◌, when, bits_of, read}
 use Rattle.mv_syntax.specs.Words.{◌>>◌, ◌!◌∶◌, over, is_set, ◌⊗◌, ◌▸◌}
 use Rattle.mv_syntax.specs.Loops.{items}
+use Rattle.mv_rules.specs.declared.rule.Rule.TheVariants.{VpsLimit}
 use Rattle.mv_syntax.specs.Lines.{lines}
 
 unfoldable pub example : Table (ℕ ⊗ Option ℕ ⊗ List ℕ)
 example = do
   present ← named "present" (u 1)
-  named "kind" (when (is_set present) (u 3 ! 26 ∶ over 5))
+  named "kind" (when (is_set present) (u 3 ! VpsLimit ∶ over 5))
   items 1 2 λ i. named "size" (u 2)
 
 -- one flag, a kind in three bits, and two sizes in two bits each

@@ -2,7 +2,9 @@ pub mod AlignLaws
 pub mod AnswerLaws
 pub mod BitLaws
 pub mod Example
-pub mod LineLaws
 pub mod LoopLaws
 pub mod PayloadLaws
+pub mod PrintedLaws
+pub mod PrintingLoops
+pub mod SizeLaws
 pub mod TableLaws

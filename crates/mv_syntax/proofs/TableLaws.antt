@@ -4,7 +4,7 @@ use Rattle.std.proofs.Common.{◌≡◌, ℕ, zero, suc, ◌-◌, ◌^◌, ◌<�
 use Rattle.mv_syntax.specs.Bits.{Fault, short, breaks, kept, u_bits, take_bits, ue_bits, take_ue, se_code, se_bits, take_se}
 use Rattle.mv_syntax.specs.Bits as bits
 use Rattle.mv_syntax.specs.Table.{Table, u, ue, se, named, refused, checked, ◌>>=◌, when, repeat, by_rule, padded, shaped, in_turn, EachValid, bits_of, Valid, Reads, EachCut, Cut, counted_as, read_each, behind, read, put_each, put}
-use Rattle.mv_syntax.specs.Laws.{ExactlyOneOf, ReadsAt, ExactlyOne, RoundTrips, Splits, Prefixes}
+use Rattle.mv_syntax.specs.Laws.{ExactlyOneOf, ReadsAt, ExactlyOne, RoundTrips, Splits, SplitsAs, Prefixes}
 use Rattle.mv_syntax.proofs.BitLaws.{take_bits-u_bits, take_bits-printed, take_bits-failed, take_ue-ue_bits, take_ue-printed, take_ue-failed, take_se-se_bits, take_se-printed, take_se-failed}
 
 -- what stands behind some bits tells how many they are
@@ -452,6 +452,17 @@ splits t f b = record {
     }),
   );
   cut = λ r. ((λ h. h), (λ h. h));
+}
+
+-- where the value has another form, which it is again behind its parts
+pub splits_as : {A B V : Type 0} (to : A × B → V) (from : V → A × B) (same : (x : A × B) → from (to x) ≡ x) → ((v : V) → to (from v) ≡ v)
+    → (t : Table A) (f : A → Table B) (b : List Bool) → SplitsAs (shaped to from same (t >>= f)) from t f b
+splits_as to from same back t f b = record {
+  reads = λ v rest. (
+    (λ h. ((splits t f b).reads (from v) rest).0 (record { valid = h.valid.0; bits = h.bits })),
+    (λ h. let both : Reads (t >>= f) b (from v) rest = ((splits t f b).reads (from v) rest).1 h in record { valid = (both.valid, back v); bits = both.bits }),
+  );
+  cut = λ r. (splits t f b).cut r;
 }
 
 -- ---- what follows changes nothing

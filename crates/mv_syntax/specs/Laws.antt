@@ -29,6 +29,11 @@ pub record Splits {A B : Type 0} (t : Table A) (f : A → Table B) (b : List Boo
   pub reads : (v : A × B) (rest : List Bool) → Reads (t >>= f) b v rest ↔ ((middle : List Bool) × Reads t b v.0 middle × Reads (f v.0) middle v.1 rest)
   pub cut : (r : ℕ) → Cut (t >>= f) b r ↔ (Cut t b r ⊎ ((v : A) × (middle : List Bool) × Reads t b v middle × Cut (f v) middle r))
 
+-- The same of a table whose value holds those of its two parts in another form.
+pub record SplitsAs {A B V : Type 0} (whole : Table V) (parts : V → A × B) (t : Table A) (f : A → Table B) (b : List Bool) : Type 0 where
+  pub reads : (v : V) (rest : List Bool) → Reads whole b v rest ↔ ((middle : List Bool) × Reads t b (parts v).0 middle × Reads (f (parts v).0) middle (parts v).1 rest)
+  pub cut : (r : ℕ) → Cut whole b r ↔ (Cut t b r ⊎ ((v : A) × (middle : List Bool) × Reads t b v middle × Cut (f v) middle r))
+
 -- What reads, or is cut, at the head of some bits does so whatever bits follow.
 pub record Prefixes {A : Type 0} (t : Table A) (b more : List Bool) : Type 0 where
   pub reads : (v : A) (rest : List Bool) → Reads t b v rest → Reads t (b ++ more) v (rest ++ more)

@@ -1,9 +1,13 @@
 pub mod Answers
 pub mod Bits
 pub mod Cursor
+pub mod Ending
 pub mod Laws
 pub mod Lines
 pub mod Loops
 pub mod Payload
+pub mod Printed
+pub mod PrintedPayload
 pub mod Table
 pub mod Words
+pub mod inner

@@ -1,5 +1,6 @@
 -- What is shown of a value: a line for each coded field, in coded order.
-use Rattle.std.specs.Prelude.{ℕ, List, [], ◌∷◌, ◌++◌, length, ℤ, pos, Some, None}
+use Rattle.std.specs.Prelude.{ℕ, List, [], ◌∷◌, ◌++◌, length, ℤ, pos, Some, None, codes, decimal}
+use Rattle.std.specs.Fmt.{signed_decimal}
 use Prim.Native.String.{String}
 use Rattle.mv_syntax.specs.Table.{Table, u, ue, se, named, refused, checked, ◌>>=◌, when, repeat, by_rule, padded, shaped, in_turn}
 
@@ -29,28 +30,18 @@ lines_in (shaped to from same t) name at v = lines_in t name at (from v)
 abbrev pub lines : {A : Type 0} → Table A → A → List Line
 lines t v = lines_in t "" [] v
 
--- The items of a list shown in turn.
-abbrev pub show_each : {A Out : Type 0} → (List A → A → Out → Out) → List A → List A → Out → Out
-show_each one before [] out = out
-show_each one before (v ∷ vs) out = show_each one (before ++ v ∷ []) vs (one before v out)
+-- The brackets of some indexes, the outermost first.
+abbrev pub bracket : ℕ → List ℕ
+bracket index = codes "[" ++ decimal index ++ codes "]"
 
--- Each line of a value in turn by one step: the same as a fold over its lines, field by field.
-abbrev pub show_in : {A Out : Type 0} → (Out → Line → Out) → Table A → String → List ℕ → A → Out → Out
-show_in step (u n) name at v out = step out (record { name = name; indexes = at; value = pos v })
-show_in step ue name at v out = step out (record { name = name; indexes = at; value = pos v })
-show_in step se name at v out = step out (record { name = name; indexes = at; value = v })
-show_in step (named own t) name at v out = show_in step t own at v out
-show_in step (refused r bad t) name at v out = show_in step t name at v out
-show_in step (checked r bad t) name at v out = show_in step t name at v out
-show_in step (t >>= f) name at v out = show_in step (f v.0) name at v.1 (show_in step t name at v.0 out)
-show_in step (when c t) name at (Some v) out = show_in step t name at v out
-show_in step (when c t) name at None out = out
-show_in step (repeat index n t) name at vs out = show_each (λ before v o. show_in step (t before) name (at ++ index (length before) ∷ []) v o) [] vs out
-show_in step (by_rule r t) name at v out = show_in step t name at v out
-show_in step (padded pad t) name at v out = show_in step t name at v out
-show_in step (shaped to from same t) name at v out = show_in step t name at (from v) out
+abbrev pub brackets : List ℕ → List ℕ
+brackets [] = []
+brackets (index ∷ indexes) = bracket index ++ brackets indexes
 
--- The steps over a list of lines.
-abbrev pub each_line : {Out : Type 0} → (Out → Line → Out) → List Line → Out → Out
-each_line step [] out = out
-each_line step (line ∷ more) out = each_line step more (step out line)
+-- A line as text: two blanks, the field's name, the brackets of all loops around it, `=`, its number and a newline.
+abbrev pub line_text : Line → List ℕ
+line_text line = codes "  " ++ (codes line.name ++ (brackets line.indexes ++ (codes "=" ++ (signed_decimal line.value ++ codes "\n"))))
+
+abbrev pub text_of : List Line → List ℕ
+text_of [] = []
+text_of (line ∷ more) = line_text line ++ text_of more

@@ -1,9 +1,9 @@
 -- Loops of a table, and what is left of them at an index, as the code that reads them meets them.
-use Rattle.std.specs.Prelude.{◌≡◌, ℕ, zero, suc, ◌+◌, ◌-◌, Bool, List, [], ◌∷◌, ◌++◌, length, Result, Ok, refl}
+use Rattle.std.specs.Prelude.{◌≡◌, ℕ, zero, suc, ◌+◌, ◌-◌, Bool, List, [], ◌∷◌, ◌++◌, length, ℤ, Result, Ok, refl}
 use Rattle.std.proofs.Common.{ap}
 use Rattle.mv_syntax.specs.Bits.{Fault}
 use Rattle.mv_syntax.specs.Bits as bits
-use Rattle.mv_syntax.specs.Table.{Table, repeat, shaped, read}
+use Rattle.mv_syntax.specs.Table.{Table, u, ue, se, repeat, shaped, read}
 
 -- A list of pairs as two lists, and back.
 abbrev pub unzipped : {A B : Type 0} → List (A × B) → List A × List B
@@ -68,3 +68,17 @@ rest_of_columns t i end ones others b = turns_of_columns (λ j _ _. t j) (end - 
 unfoldable pub rest_of_columns_after :
     {A B : Type 0} → (ℕ → List A → List B → Table (A × B)) → ℕ → ℕ → List A → List B → List Bool → Result ((List A × List B) × List Bool) Fault
 rest_of_columns_after t i end ones others b = turns_of_columns t (end - i) i ones others b
+
+-- The same field in each turn of a loop.
+unfoldable pub each : {A : Type 0} → Table A → ℕ → Table A
+each t turn = t
+
+-- Loops of single fields from index `first` on.
+abbrev pub us : ℕ → ℕ → ℕ → Table (List ℕ)
+us first n width = items first n (each (u width))
+
+abbrev pub ues : ℕ → ℕ → Table (List ℕ)
+ues first n = items first n (each ue)
+
+abbrev pub ses : ℕ → ℕ → Table (List ℤ)
+ses first n = items first n (each se)

@@ -1,21 +1,38 @@
 -- The words that tables are written with, beside the constructors.
 use Rattle.std.specs.Prelude.{ℕ, suc, ◌+◌, ◌-◌, Bool, not, List, [], ◌∷◌, length, Option, Some, None, nat_lt, nat_eq, if◌then◌else◌}
 use Rattle.mv_syntax.specs.Bits.{align_bits, trailing_bits}
-use Rattle.mv_syntax.specs.Table.{Table, refused, checked, ◌>>=◌, repeat, padded}
+use Rattle.mv_syntax.specs.Table.{Table, refused, checked, ◌>>=◌, repeat, by_rule, padded}
+use Rattle.mv_rules.specs.Rule.{rule_number}
+use Rattle.mv_rules.specs.declared.rule.Rule.{Rule}
 
 -- `t ! r ∶ bad`: the field t, which breaks rule r where its value is bad.
 infixl 20 ◌!◌∶◌
-abbrev pub ◌!◌∶◌ : {A : Type 0} → Table A → ℕ → (A → Bool) → Table A
-t ! r ∶ bad = refused r bad t
+abbrev pub ◌!◌∶◌ : {A : Type 0} → Table A → Rule → (A → Bool) → Table A
+t ! r ∶ bad = refused (rule_number r) bad t
 
--- Rules tried at a point between two fields, each by its number and whether it is broken, the least first.
-abbrev pub tried : {A : Type 0} → List (ℕ × Bool) → Table A → Table A
+-- `t unless bad`: a field of a structure that several headers share, which is past its limit where its value is bad. Which rule
+-- that breaks, the header says that holds the structure; until then it is counted as 0.
+infixl 20 ◌unless◌
+abbrev pub ◌unless◌ : {A : Type 0} → Table A → (A → Bool) → Table A
+t unless bad = refused 0 bad t
+
+-- `t under r`: a shared structure in a header, whose limits break rule r there.
+infixl 20 ◌under◌
+abbrev pub ◌under◌ : {A : Type 0} → Table A → Rule → Table A
+t under r = by_rule (rule_number r) t
+
+-- Rules tried at a point between two fields, each with whether it is broken, the least first.
+abbrev pub tried : {A : Type 0} → List (Rule × Bool) → Table A → Table A
 tried [] t = t
-tried (rule ∷ rules) t = checked rule.0 rule.1 (tried rules t)
+tried (rule ∷ rules) t = checked (rule_number rule.0) rule.1 (tried rules t)
 
 -- A value is over n, is n, or is not n.
 abbrev pub over : ℕ → ℕ → Bool
 over n v = nat_lt n v
+
+-- A value is not below n.
+abbrev pub at_least : ℕ → ℕ → Bool
+at_least n v = not (nat_lt v n)
 
 abbrev pub is : ℕ → ℕ → Bool
 is n v = nat_eq v n

@@ -3,8 +3,8 @@ use Rattle.std.proofs.Common.{◌≡◌, ℕ, ◌+◌, ◌-◌, ◌<◌, ◌≤�
 use Rattle.mv_syntax.specs.Table.{Table, Valid, Reads, Cut, read}
 use Rattle.mv_syntax.specs.Answers.{Refuses, FailsAs}
 use Rattle.mv_syntax.proofs.TableLaws.{table_answered, reads-of}
-use Rattle.mv_io.specs.declared.refusal.ReadFault.{ReadFault}
-use Rattle.mv_io.specs.declared.refusal.ReadFault.TheVariants.{Refused, Memory as out_of_memory}
+use Rattle.mv_rules.specs.declared.refusal.ReadFault.{ReadFault}
+use Rattle.mv_rules.specs.declared.refusal.ReadFault.TheVariants.{Refused, Memory as out_of_memory}
 use Rattle.mv_vpsext.specs.Args.{AreVpsArgs}
 use Rattle.mv_vpsext.specs.Faults.{refusal_means}
 use Rattle.mv_vps.specs.Faults.{means, of_extension}

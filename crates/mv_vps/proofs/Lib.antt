@@ -6,3 +6,4 @@ pub mod Extending
 pub mod Payloads
 pub mod FormatSteps
 pub mod Getting
+pub mod Writing

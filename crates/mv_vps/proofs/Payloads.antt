@@ -1,9 +1,11 @@
 -- Whole payloads, in the order in which a call reads and writes them.
 use Rattle.std.proofs.Common.{◌≡◌, ◌-◌, ◌≤◌, ◌++◌, [], Bool, List, length, Option, Some, None, Ok, sym, ap, ap₂, ◌∙◌, subst}
-use Rattle.mv_syntax.specs.Bits.{Fault, trailing_bits}
+use Rattle.mv_syntax.specs.Bits.{Fault}
 use Rattle.mv_syntax.specs.Cursor.{Cursor, place}
 use Rattle.mv_syntax.specs.Table.{read, put}
-use Rattle.mv_syntax.specs.Payload.{size_limit, Payload, ReadsPayload, CutPayload, tail_bits, payload_bits, read_end, read_payload}
+use Rattle.mv_syntax.specs.Payload.{size_limit, Payload, ReadsPayload, CutPayload, payload_bits, read_payload}
+use Rattle.mv_syntax.specs.Ending.{end_bits}
+use Rattle.mv_syntax.specs.inner.Ending.{read_end}
 use Rattle.mv_syntax.specs.Answers.{FailsAs, Refuses}
 use Rattle.mv_syntax.proofs.AnswerLaws.{refuses}
 use Rattle.mv_syntax.proofs.PayloadLaws.{payload_fault, payload_end, payload_end_fault, payload_put, payload_answered}
@@ -44,7 +46,7 @@ payload_refused p b fault e = refuses (read_payload p b) (ReadsPayload p b) (Cut
 
 -- the fields, the tail and the trailing bits written one behind the other
 pub payload_written : {A : Type 0} (p : Payload A) (v : A × Option (List Bool)) (fields ended : List Bool) (tail : Option (List Bool))
-    → fields ≡ put p.fields v.0 [] → tail ≡ v.1 → ended ≡ (fields ++ tail_bits tail) ++ trailing_bits (length (fields ++ tail_bits tail))
+    → fields ≡ put p.fields v.0 [] → tail ≡ v.1 → ended ≡ fields ++ end_bits (length fields) tail
     → ended ≡ payload_bits p v
 payload_written p v fields ended tail wrote same e =
-    e ∙ ap₂ (λ f o. (f ++ tail_bits o) ++ trailing_bits (length (f ++ tail_bits o))) wrote same ∙ sym (payload_put p v)
+    e ∙ ap₂ (λ f o. f ++ end_bits (length f) o) wrote same ∙ sym (payload_put p v)

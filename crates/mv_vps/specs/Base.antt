@@ -18,13 +18,13 @@ pub record VpsBaseValue : Type 0 where
 
 unfoldable pub base : Table VpsBaseValue
 base = shaped
-    (λ c. record {
-      head = c.0;
-      ordering = c.1.0;
-      layer_sets = c.1.1.0;
-      vps_timing_info_present_flag = c.1.1.1.0;
-      timing = c.1.1.1.1.0;
-      vps_extension_flag = c.1.1.1.1.1;
+    (λ (head, (ordering, (layer_sets, (vps_timing_info_present_flag, (timing, vps_extension_flag))))). record {
+      head = head;
+      ordering = ordering;
+      layer_sets = layer_sets;
+      vps_timing_info_present_flag = vps_timing_info_present_flag;
+      timing = timing;
+      vps_extension_flag = vps_extension_flag;
     })
     (λ v.
     v.head

@@ -1,8 +1,9 @@
 -- The first fields of a video parameter set (7.3.2.1, F.7.3.2.1), up to profile_tier_level. A base layer that isn't in the stream
 -- or isn't available is refused (ExternalBase, 11); 64 layers and 8 sub-layers break the limit rule, 26 (this project's profile).
 use Rattle.std.specs.Prelude.{ℕ, true, refl}
-use Rattle.mv_syntax.specs.Table.{Table, ◌>>=◌, u, named, by_rule, shaped}
-use Rattle.mv_syntax.specs.Words.{◌▸◌, ◌>>◌, ◌!◌∶◌, is}
+use Rattle.mv_syntax.specs.Table.{Table, ◌>>=◌, u, named, shaped}
+use Rattle.mv_syntax.specs.Words.{◌under◌, ◌▸◌, ◌>>◌, ◌!◌∶◌, is}
+use Rattle.mv_rules.specs.declared.rule.Rule.TheVariants.{ExternalBase, VpsLimit}
 use Rattle.mv_common.specs.ProfileTier.{ProfileTierValue, profile_tier_level}
 
 pub record VpsHeadValue : Type 0 where
@@ -17,15 +18,15 @@ pub record VpsHeadValue : Type 0 where
 
 unfoldable pub head : Table VpsHeadValue
 head = shaped
-    (λ c. record {
-      vps_video_parameter_set_id = c.0;
-      vps_base_layer_internal_flag = c.1.0;
-      vps_base_layer_available_flag = c.1.1.0;
-      vps_max_layers_minus1 = c.1.1.1.0;
-      vps_max_sub_layers_minus1 = c.1.1.1.1.0;
-      vps_temporal_id_nesting_flag = c.1.1.1.1.1.0;
-      vps_reserved_0xffff_16bits = c.1.1.1.1.1.1.0;
-      profile_tier_level = c.1.1.1.1.1.1.1;
+    (λ (vps_video_parameter_set_id, (vps_base_layer_internal_flag, (vps_base_layer_available_flag, (vps_max_layers_minus1, (vps_max_sub_layers_minus1, (vps_temporal_id_nesting_flag, (vps_reserved_0xffff_16bits, profile_tier_level))))))). record {
+      vps_video_parameter_set_id = vps_video_parameter_set_id;
+      vps_base_layer_internal_flag = vps_base_layer_internal_flag;
+      vps_base_layer_available_flag = vps_base_layer_available_flag;
+      vps_max_layers_minus1 = vps_max_layers_minus1;
+      vps_max_sub_layers_minus1 = vps_max_sub_layers_minus1;
+      vps_temporal_id_nesting_flag = vps_temporal_id_nesting_flag;
+      vps_reserved_0xffff_16bits = vps_reserved_0xffff_16bits;
+      profile_tier_level = profile_tier_level;
     })
     (λ v.
     v.vps_video_parameter_set_id
@@ -39,10 +40,10 @@ head = shaped
     (λ _. refl)
     do
       named "vps_video_parameter_set_id" (u 4)
-      named "vps_base_layer_internal_flag" (u 1 ! 11 ∶ is 0)
-      named "vps_base_layer_available_flag" (u 1 ! 11 ∶ is 0)
-      named "vps_max_layers_minus1" (u 6 ! 26 ∶ is 63)
-      vps_max_sub_layers_minus1 ← named "vps_max_sub_layers_minus1" (u 3 ! 26 ∶ is 7)
+      named "vps_base_layer_internal_flag" (u 1 ! ExternalBase ∶ is 0)
+      named "vps_base_layer_available_flag" (u 1 ! ExternalBase ∶ is 0)
+      named "vps_max_layers_minus1" (u 6 ! VpsLimit ∶ is 63)
+      vps_max_sub_layers_minus1 ← named "vps_max_sub_layers_minus1" (u 3 ! VpsLimit ∶ is 7)
       named "vps_temporal_id_nesting_flag" (u 1)
       named "vps_reserved_0xffff_16bits" (u 16)
-      by_rule 26 (profile_tier_level true vps_max_sub_layers_minus1)
+      profile_tier_level true vps_max_sub_layers_minus1 under VpsLimit

@@ -3,6 +3,7 @@
 use Rattle.std.specs.Prelude.{ℕ, List, refl}
 use Rattle.mv_syntax.specs.Table.{Table, ◌>>=◌, u, ue, named, shaped}
 use Rattle.mv_syntax.specs.Words.{◌▸◌, ◌!◌∶◌, over, is}
+use Rattle.mv_rules.specs.declared.rule.Rule.TheVariants.{VpsLimit}
 use Rattle.mv_vpsext.specs.Args.{layer_sets}
 
 -- The greatest nuh_layer_id in a layer set, and the flags of the layer sets from 1 on.
@@ -13,10 +14,10 @@ pub record VpsLayerSetsValue : Type 0 where
 
 unfoldable pub all_layer_sets : Table VpsLayerSetsValue
 all_layer_sets = shaped
-    (λ c. record {
-      vps_max_layer_id = c.0;
-      vps_num_layer_sets_minus1 = c.1.0;
-      layer_id_included_flag = c.1.1;
+    (λ (vps_max_layer_id, (vps_num_layer_sets_minus1, layer_id_included_flag)). record {
+      vps_max_layer_id = vps_max_layer_id;
+      vps_num_layer_sets_minus1 = vps_num_layer_sets_minus1;
+      layer_id_included_flag = layer_id_included_flag;
     })
     (λ v.
     v.vps_max_layer_id
@@ -24,6 +25,6 @@ all_layer_sets = shaped
     ▸ v.layer_id_included_flag)
     (λ _. refl)
     do
-      vps_max_layer_id ← named "vps_max_layer_id" (u 6 ! 26 ∶ is 63)
-      vps_num_layer_sets_minus1 ← named "vps_num_layer_sets_minus1" (ue ! 26 ∶ over 1023)
+      vps_max_layer_id ← named "vps_max_layer_id" (u 6 ! VpsLimit ∶ is 63)
+      vps_num_layer_sets_minus1 ← named "vps_num_layer_sets_minus1" (ue ! VpsLimit ∶ over 1023)
       layer_sets vps_num_layer_sets_minus1 vps_max_layer_id

@@ -4,15 +4,16 @@ use Rattle.std.specs.Prelude.{ℕ, ◌+◌, ◌-◌, List, refl, if◌then◌els
 use Rattle.mv_syntax.specs.Table.{Table, ◌>>=◌, u, ue, named, shaped}
 use Rattle.mv_syntax.specs.Words.{◌▸◌, ◌>>◌, ◌!◌∶◌, over, is_set}
 use Rattle.mv_syntax.specs.Loops.{items}
+use Rattle.mv_rules.specs.declared.rule.Rule.TheVariants.{VpsLimit}
 use Rattle.mv_vps.specs.declared.ordering.VpsSubLayer.{VpsSubLayer}
 
 -- The numbers of sub-layer i.
 unfoldable pub sub_layer : ℕ → Table VpsSubLayer
 sub_layer i = shaped
-    (λ c. record {
-      vps_max_dec_pic_buffering_minus1 = c.0;
-      vps_max_num_reorder_pics = c.1.0;
-      vps_max_latency_increase_plus1 = c.1.1;
+    (λ (vps_max_dec_pic_buffering_minus1, (vps_max_num_reorder_pics, vps_max_latency_increase_plus1)). record {
+      vps_max_dec_pic_buffering_minus1 = vps_max_dec_pic_buffering_minus1;
+      vps_max_num_reorder_pics = vps_max_num_reorder_pics;
+      vps_max_latency_increase_plus1 = vps_max_latency_increase_plus1;
     })
     (λ v.
     v.vps_max_dec_pic_buffering_minus1
@@ -20,8 +21,8 @@ sub_layer i = shaped
     ▸ v.vps_max_latency_increase_plus1)
     (λ _. refl)
     do
-      named "vps_max_dec_pic_buffering_minus1" (ue ! 26 ∶ over 15)
-      named "vps_max_num_reorder_pics" (ue ! 26 ∶ over 15)
+      named "vps_max_dec_pic_buffering_minus1" (ue ! VpsLimit ∶ over 15)
+      named "vps_max_num_reorder_pics" (ue ! VpsLimit ∶ over 15)
       named "vps_max_latency_increase_plus1" ue
 
 -- for i = first to vps_max_sub_layers_minus1
@@ -39,9 +40,9 @@ pub record VpsOrderingValue : Type 0 where
 
 unfoldable pub ordering : ℕ → Table VpsOrderingValue
 ordering vps_max_sub_layers_minus1 = shaped
-    (λ c. record {
-      vps_sub_layer_ordering_info_present_flag = c.0;
-      sub_layers = c.1;
+    (λ (vps_sub_layer_ordering_info_present_flag, sub_layers). record {
+      vps_sub_layer_ordering_info_present_flag = vps_sub_layer_ordering_info_present_flag;
+      sub_layers = sub_layers;
     })
     (λ v.
     v.vps_sub_layer_ordering_info_present_flag

@@ -2,9 +2,10 @@
 -- project's profile).
 use Rattle.std.specs.Prelude.{ℕ, false, List, Option, refl}
 use Rattle.std.specs.List.{fold}
-use Rattle.mv_syntax.specs.Table.{Table, ◌>>=◌, u, ue, named, when, by_rule, shaped}
-use Rattle.mv_syntax.specs.Words.{◌▸◌, ◌>>◌, ◌!◌∶◌, over, is_set, ◌otherwise◌}
+use Rattle.mv_syntax.specs.Table.{Table, ◌>>=◌, u, ue, named, when, shaped}
+use Rattle.mv_syntax.specs.Words.{◌under◌, ◌▸◌, ◌>>◌, ◌!◌∶◌, over, is_set, ◌otherwise◌}
 use Rattle.mv_syntax.specs.Loops.{items_after}
+use Rattle.mv_rules.specs.declared.rule.Rule.TheVariants.{VpsLimit}
 use Rattle.mv_common.specs.declared.hrd_common.HrdFlags.{HrdFlags}
 use Rattle.mv_common.specs.Hrd.{HrdValue, hrd_parameters, in_force}
 
@@ -17,10 +18,10 @@ pub record VpsHrdValue : Type 0 where
 -- hrd_parameters i, where these flags of the first group are in force before it. cprms_present_flag is 1 where it is left out.
 unfoldable pub vps_hrd : ℕ → HrdFlags → ℕ → Table VpsHrdValue
 vps_hrd vps_max_sub_layers_minus1 before i = shaped
-    (λ c. record {
-      hrd_layer_set_idx = c.0;
-      cprms_present_flag = c.1.0;
-      hrd_parameters = c.1.1;
+    (λ (hrd_layer_set_idx, (cprms_present_flag, hrd_parameters)). record {
+      hrd_layer_set_idx = hrd_layer_set_idx;
+      cprms_present_flag = cprms_present_flag;
+      hrd_parameters = hrd_parameters;
     })
     (λ v.
     v.hrd_layer_set_idx
@@ -30,7 +31,7 @@ vps_hrd vps_max_sub_layers_minus1 before i = shaped
     do
       named "hrd_layer_set_idx" ue
       cprms_present_flag ← named "cprms_present_flag" (when (over 0 i) (u 1))
-      by_rule 26 (hrd_parameters (is_set (cprms_present_flag otherwise 1)) vps_max_sub_layers_minus1 before)
+      hrd_parameters (is_set (cprms_present_flag otherwise 1)) vps_max_sub_layers_minus1 before under VpsLimit
 
 -- No first group was coded yet.
 abbrev pub no_flags : HrdFlags
@@ -59,13 +60,13 @@ pub record VpsTimingValue : Type 0 where
 
 unfoldable pub timing : ℕ → Table VpsTimingValue
 timing vps_max_sub_layers_minus1 = shaped
-    (λ c. record {
-      vps_num_units_in_tick = c.0;
-      vps_time_scale = c.1.0;
-      vps_poc_proportional_to_timing_flag = c.1.1.0;
-      vps_num_ticks_poc_diff_one_minus1 = c.1.1.1.0;
-      vps_num_hrd_parameters = c.1.1.1.1.0;
-      hrds = c.1.1.1.1.1;
+    (λ (vps_num_units_in_tick, (vps_time_scale, (vps_poc_proportional_to_timing_flag, (vps_num_ticks_poc_diff_one_minus1, (vps_num_hrd_parameters, hrds))))). record {
+      vps_num_units_in_tick = vps_num_units_in_tick;
+      vps_time_scale = vps_time_scale;
+      vps_poc_proportional_to_timing_flag = vps_poc_proportional_to_timing_flag;
+      vps_num_ticks_poc_diff_one_minus1 = vps_num_ticks_poc_diff_one_minus1;
+      vps_num_hrd_parameters = vps_num_hrd_parameters;
+      hrds = hrds;
     })
     (λ v.
     v.vps_num_units_in_tick
@@ -80,5 +81,5 @@ timing vps_max_sub_layers_minus1 = shaped
       named "vps_time_scale" (u 32)
       vps_poc_proportional_to_timing_flag ← named "vps_poc_proportional_to_timing_flag" (u 1)
       named "vps_num_ticks_poc_diff_one_minus1" (when (is_set vps_poc_proportional_to_timing_flag) ue)
-      vps_num_hrd_parameters ← named "vps_num_hrd_parameters" (ue ! 26 ∶ over 1024)
+      vps_num_hrd_parameters ← named "vps_num_hrd_parameters" (ue ! VpsLimit ∶ over 1024)
       vps_hrds vps_max_sub_layers_minus1 vps_num_hrd_parameters

@@ -3,9 +3,11 @@ use Rattle.std.specs.Prelude.{◌≡◌, ℕ, Bool, false, not, ◌||◌, List, 
 use Rattle.mv_syntax.specs.Table.{Table, ◌>>=◌, u, named, when, shaped}
 use Rattle.mv_syntax.specs.Words.{◌▸◌, is_set, coded_set}
 use Rattle.mv_syntax.specs.Payload.{Payload, ValidPayload}
+use Rattle.mv_rules.specs.declared.rule.Rule.TheVariants.{VpsLimit}
 use Rattle.mv_vpsext.specs.Args.{VpsArgsValue}
 use Rattle.mv_vpsext.specs.VpsExt.{VpsExtValue, vps_extension}
-use Rattle.mv_vpsext.specs.Derived.{DerivedValue, derived}
+use Rattle.mv_layers.specs.Derived.{DerivedValue}
+use Rattle.mv_vpsext.specs.Derived.{derived}
 use Rattle.mv_vps.specs.Base.{VpsBaseValue, aligned_base, args_of}
 
 -- The fields in coded order, in parts; a part that is not coded is None.
@@ -27,10 +29,10 @@ has_extension2_flag (Some ext) = not (is_set ext.types.vps_vui_present_flag)
 -- The fields up to the tail.
 unfoldable pub vps_fields : Table VpsValue
 vps_fields = shaped
-    (λ c. record {
-      base = c.0;
-      extension = c.1.0;
-      vps_extension2_flag = c.1.1;
+    (λ (base, (extension, vps_extension2_flag)). record {
+      base = base;
+      extension = extension;
+      vps_extension2_flag = vps_extension2_flag;
     })
     (λ v.
     v.base
@@ -49,7 +51,7 @@ has_tail v = has_vui v.extension || coded_set v.vps_extension2_flag
 -- The payload: at most 65,536 bytes, or else the limit rule, 26 (this project's profile); the fields, the tail (the VUI, or
 -- vps_extension_data_flag) and the trailing bits.
 abbrev pub vps : Payload VpsValue
-vps = record { fields = vps_fields; size_rule = 26; has_tail = has_tail }
+vps = record { fields = vps_fields; size_rule = VpsLimit; has_tail = has_tail }
 
 -- Without an extension there is layer 0 alone, and one output layer set, which has it as its output.
 abbrev pub layer_0_alone : DerivedValue

@@ -12,7 +12,7 @@ use crate::layer_sets::{VpsLayerSets, all_layer_sets_of, put_all_layer_sets};
 use crate::ordering::{VpsOrdering, ordering_of, put_ordering};
 use crate::timing::{VpsTiming, put_timing_if, timing_if};
 use mv_bits::{BitReader, BitWriter, NoBits};
-use mv_common::{put_u8, u8_of};
+use mv_fields::{put_u8, u8_of};
 use std::alloc::{AllocError, Global};
 use std::marker::Model;
 

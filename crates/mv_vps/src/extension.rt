@@ -6,6 +6,7 @@ ghost use Rattle.mv_syntax.specs.Words.{is_set};
 ghost use Rattle.mv_syntax.specs.Answers.{Fills};
 ghost use Rattle.mv_vpsext.specs.Args.{AreVpsArgs};
 ghost use Rattle.mv_vpsext.specs.VpsExt.{vps_extension};
+ghost use Rattle.mv_vpsext.specs.Derived.{derived};
 ghost use Rattle.mv_vps.specs.Faults.{means};
 ghost use Rattle.mv_vps.specs.Base.{args_of};
 ghost use Rattle.mv_vps.specs.Vps.{has_vui, has_extension2_flag, layer_0_alone, described};
@@ -13,40 +14,21 @@ ghost use Rattle.mv_vps.specs.Vps.{has_vui, has_extension2_flag, layer_0_alone, 
 use crate::base::VpsBase;
 use crate::fault::VpsFault;
 use mv_bits::{BitReader, BitWriter};
-use mv_vpsext::{Derived, LayerInfo, LayerSet, Ols, VpsArgs, VpsExt};
+use mv_layers::{Derived, LayerInfo, Ols};
+use mv_vpsext::{VpsArgs, VpsExt};
 use std::alloc::{AllocError, Global};
 
-fn copy_of(set: &LayerSet) -> Result<LayerSet, AllocError>
-    ensures { IfOk result (λ s. s ≡ set.now) }
-{
-    let layer_id_included_flag = set.layer_id_included_flag.clone()?;
-    Ok(LayerSet {
-        layer_id_included_flag,
-    })
-}
-
-fn copies_of(alloc: Global, sets: &[LayerSet]) -> Result<Vec<LayerSet>, AllocError>
-    ensures { IfOk result (λ v. v.items ≡ sets.now) }
-{
-    let mut all = Vec::new(alloc);
-    for set in sets {
-        all.push(copy_of(set)?)?;
-    }
-    Ok(all)
-}
-
 // What the extension takes from the fields before it.
-fn args_of(alloc: Global, base: &VpsBase) -> Result<VpsArgs, AllocError>
-    ensures { IfOk result (λ args. args ≡ args_of base.now) }
+fn args_of(base: &VpsBase) -> VpsArgs<'_>
+    ensures { result ≡ args_of base.now }
 {
-    let layer_id_included_flag = copies_of(alloc, &base.layer_sets.layer_id_included_flag)?;
-    Ok(VpsArgs {
+    VpsArgs {
         vps_max_layers_minus1: base.head.vps_max_layers_minus1,
         vps_max_sub_layers_minus1: base.head.vps_max_sub_layers_minus1,
         vps_max_layer_id: base.layer_sets.vps_max_layer_id,
         vps_num_layer_sets_minus1: base.layer_sets.vps_num_layer_sets_minus1,
-        layer_id_included_flag,
-    })
+        layer_id_included_flag: &base.layer_sets.layer_id_included_flag,
+    }
 }
 
 // Layer 0 in a list of its own.
@@ -82,9 +64,15 @@ fn layer_0_alone(alloc: Global) -> Result<Derived, AllocError>
     Ok(Derived { layers, sets })
 }
 
-fn ext_of(alloc: Global, bits: &mut BitReader, args: &VpsArgs) -> Result<VpsExt, VpsFault>
+// The extension, and what it describes.
+fn ext_of(
+    alloc: Global,
+    bits: &mut BitReader,
+    args: &VpsArgs,
+) -> Result<(VpsExt, Derived), VpsFault>
     requires { AreVpsArgs args.now }
-    ensures { Fills (λ v. v) means bits.old bits.new result (read (vps_extension args.now) bits.old.left) }
+    ensures reads { Fills (λ v. v.0) means bits.old bits.new result (read (vps_extension args.now) bits.old.left) }
+    ensures derived { IfOk result (λ v. v.1 ≡ derived args.now v.0) }
 {
     match VpsExt::read(alloc, bits, args) {
         Ok(value) => Ok(value),
@@ -106,16 +94,14 @@ pub(crate) fn extension_of(
         let derived = layer_0_alone(alloc)?;
         return Ok((None, derived));
     }
-    let args = args_of(alloc, base)?;
-    let ext = ext_of(alloc, bits, &args)?;
-    let derived = ext.derive(alloc, &args)?;
+    let args = args_of(base);
+    let (ext, derived) = ext_of(alloc, bits, &args)?;
     Ok((Some(ext), derived))
 }
 
 /// Writes the extension behind these fields, where there is one.
 #[tactic(auto, using(mv_vpsext::proofs::Sharing::shared_put_steps))]
 pub(crate) fn put_extension(
-    alloc: Global,
     out: &mut BitWriter,
     base: &VpsBase,
     extension: &Option<VpsExt>,
@@ -126,7 +112,7 @@ pub(crate) fn put_extension(
 {
     match extension {
         Some(ext) => {
-            let args = args_of(alloc, base)?;
+            let args = args_of(base);
             ext.write(out, &args)
         }
         None => Ok(()),

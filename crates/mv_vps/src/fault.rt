@@ -1,10 +1,10 @@
 ghost use Rattle.std.specs.Prelude.{◌≡◌};
-ghost use Rattle.mv_vps.specs.Faults.{of_shared, of_extension};
+ghost use Rattle.mv_vps.specs.Faults.{of_shared, of_end, of_extension};
 ghost use Rattle.mv_vps.specs.declared.fault.VpsFault.TheVariants.{NoBits as no_bits, Memory};
 
-use mv_bits::NoBits;
-use mv_common::FieldFault;
-use mv_io::{ReadFault, Rule};
+use mv_bits::{EndFault, NoBits};
+use mv_fields::{Fault, Limit};
+use mv_rules::{ReadFault, Rule};
 use std::alloc::{AllocError, AllocFailed};
 
 /// Why a part of a video parameter set was not read.
@@ -26,14 +26,25 @@ impl From<NoBits> for VpsFault {
     }
 }
 
-impl From<FieldFault> for VpsFault {
+impl From<Fault<Limit>> for VpsFault {
     ghost from_gives = { λ fault e. e ≡ of_shared fault };
 
-    fn from(fault: FieldFault) -> VpsFault {
+    fn from(fault: Fault<Limit>) -> VpsFault {
         match fault {
-            FieldFault::NoBits => VpsFault::NoBits,
-            FieldFault::Limit => VpsFault::Breaks(Rule::VpsLimit),
-            FieldFault::Memory => VpsFault::Memory,
+            Fault::NoBits => VpsFault::NoBits,
+            Fault::Breaks(_) => VpsFault::Breaks(Rule::VpsLimit),
+            Fault::Memory => VpsFault::Memory,
+        }
+    }
+}
+
+impl From<EndFault> for VpsFault {
+    ghost from_gives = { λ fault e. e ≡ of_end fault };
+
+    fn from(fault: EndFault) -> VpsFault {
+        match fault {
+            EndFault::NoBits => VpsFault::NoBits,
+            EndFault::Memory => VpsFault::Memory,
         }
     }
 }

@@ -1,40 +1,23 @@
 //! What a video parameter set describes: its layers, output layer sets and formats.
 
-ghost use Rattle.std.specs.Prelude.{◌≡◌, ◌≤◌, length, nat_eq};
+ghost use Rattle.std.specs.Prelude.{◌≡◌, ◌≤◌, length};
 ghost use Rattle.std.specs.Option.{option_copied};
 ghost use Rattle.std.specs.List.{slice_get, find};
-ghost use Rattle.mv_vpsext.specs.LayerInfos.{LayerInfoValue as Layer};
+ghost use Rattle.mv_layers.specs.LayerInfos.{is_layer};
 ghost use Rattle.mv_vps.specs.Vps.{ValidVps};
 ghost use Rattle.mv_vps.specs.Formats.{rep_formats_of, format_at};
 
 use crate::formats::format_at;
 use crate::vps::Vps;
 use mv_common::Format;
-use mv_vpsext::{LayerInfo, Ols, RepFormat, VpsExt};
+use mv_layers::{LayerInfo, Ols, layer_named};
+use mv_vpsext::{RepFormat, VpsExt};
 
 fn count_of(sets: &[Ols]) -> u32
     requires { length sets.now ≤ 1024 }
     ensures { result ≡ length sets.now }
 {
     sets.len() as u32
-}
-
-fn is_layer(info: &LayerInfo, layer: u8) -> bool
-    ensures { result ≡ nat_eq info.now.layer layer }
-{
-    info.layer == layer
-}
-
-// The layer of this nuh_layer_id, if it is one of these.
-fn layer_among(layers: &[LayerInfo], layer: u8) -> Option<&LayerInfo>
-    ensures { option_copied result ≡ find (λ (info : Layer). nat_eq info.layer layer) layers.now }
-{
-    for info in layers {
-        if is_layer(info, layer) {
-            return Some(info);
-        }
-    }
-    None
 }
 
 // The formats that an extension lists; without one there are none.
@@ -67,9 +50,9 @@ impl Vps {
     /// The layer of this nuh_layer_id. `None` where the video parameter set has none.
     pub fn layer(&self, layer: u8) -> Option<&LayerInfo>
         requires { ValidVps self.now }
-        ensures { option_copied result ≡ find (λ (info : Layer). nat_eq info.layer layer) self.now.derived.layers }
+        ensures { option_copied result ≡ find (is_layer layer) self.now.derived.layers }
     {
-        layer_among(&self.derived.layers, layer)
+        layer_named(&self.derived.layers, layer)
     }
 
     /// The format of pictures of this index, among those of the extension. `None` where there is none of this index, and where

@@ -8,7 +8,8 @@ use crate::fault::VpsFault;
 use crate::fields::{base_flag, u8_except};
 use crate::shared::{profile_tier_of, put_profile_tier};
 use mv_bits::{BitReader, BitWriter};
-use mv_common::{ProfileTier, put_u8, put_u16, u8_of, u16_of};
+use mv_common::ProfileTier;
+use mv_fields::{put_u8, put_u16, u8_of, u16_of};
 use std::alloc::{AllocError, Global};
 use std::marker::Model;
 

@@ -10,7 +10,8 @@ ghost use Rattle.mv_vps.specs.Timing.{vps_hrd, vps_hrds};
 
 use crate::fault::VpsFault;
 use mv_bits::{BitReader, BitWriter};
-use mv_common::{Hrd, HrdArgs, HrdFlags, flags_in_force, put_u8_if, put_ue, u8_if};
+use mv_common::{Hrd, HrdArgs, HrdFlags, flags_in_force};
+use mv_fields::{put_u8_if, put_ue, u8_if};
 use std::alloc::{AllocError, Global};
 use std::marker::Model;
 

@@ -8,8 +8,8 @@ ghost use Rattle.mv_vps.specs.LayerSets.{all_layer_sets};
 use crate::fault::VpsFault;
 use crate::fields::{u8_except, ue_within};
 use mv_bits::{BitReader, BitWriter};
-use mv_common::{put_u8, put_ue, u8_of};
-use mv_vpsext::LayerSet;
+use mv_fields::{put_u8, put_ue, u8_of};
+use mv_layers::LayerSet;
 use std::alloc::{AllocError, Global};
 use std::marker::Model;
 

@@ -7,7 +7,7 @@ ghost use Rattle.mv_vps.specs.Ordering.{sub_layer, sub_layers, first_coded, orde
 use crate::fault::VpsFault;
 use crate::fields::ue_within;
 use mv_bits::{BitReader, BitWriter};
-use mv_common::{put_u8, put_ue, u8_of};
+use mv_fields::{put_u8, put_ue, u8_of};
 use std::alloc::{AllocError, Global};
 use std::marker::Model;
 

@@ -11,13 +11,10 @@ ghost use Rattle.mv_vps.specs.Vps.{vps, has_tail, described, ValidVps};
 use crate::extension::has_vui;
 use crate::fault::VpsFault;
 use crate::vps::{Vps, fields_of, put_fields};
-use mv_bits::{BitReader, BitWriter};
-use mv_common::{coded_set, payload_end_of, put_payload_end};
-use mv_io::{ReadFault, Rule};
+use mv_bits::{BitReader, BitWriter, payload_end_of, put_payload_end};
+use mv_fields::{MAX_BYTES, coded_set};
+use mv_rules::{ReadFault, Rule};
 use std::alloc::{AllocError, Global};
-
-/// The greatest payload of a parameter set, in bytes.
-const MAX_BYTES: usize = 65_536;
 
 // Whether a tail stands behind the fields.
 fn has_tail(value: &Vps) -> bool
@@ -74,7 +71,7 @@ pub fn write_vps(alloc: Global, value: &Vps) -> Result<Vec<u8>, AllocError>
     ensures { IfOk result (λ bytes. byte_bits bytes.items ≡ payload_bits vps value.now.coded) }
 {
     let mut out = BitWriter::new(alloc);
-    put_fields(alloc, &mut out, value)?;
+    put_fields(&mut out, value)?;
     put_payload_end(&mut out, &value.tail)?;
     Ok(out.into_bytes())
 }

@@ -6,7 +6,7 @@ ghost use Rattle.mv_vps.specs.Vps.{ValidVps};
 
 use super::*;
 use mv_common::{Format, Profile};
-use mv_io::{ReadFault, Rule};
+use mv_rules::{ReadFault, Rule};
 use mv_vpsext::VpsExt;
 use std::alloc::Global;
 use std::test::Fail;

@@ -8,7 +8,7 @@ use crate::fault::VpsFault;
 use crate::fields::ue_within;
 use crate::hrds::{VpsHrd, put_vps_hrds, vps_hrds_of};
 use mv_bits::{BitReader, BitWriter};
-use mv_common::{put_u8, put_u32, put_ue, put_ue_if, u8_of, u32_of, ue_if};
+use mv_fields::{put_u8, put_u32, put_ue, put_ue_if, u8_of, u32_of, ue_if};
 use std::alloc::{AllocError, Global};
 use std::marker::Model;
 

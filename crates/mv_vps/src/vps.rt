@@ -10,8 +10,9 @@ use crate::base::{VpsBase, aligned_base_of, put_aligned_base};
 use crate::extension::{extension_of, has_extension2_flag, put_extension};
 use crate::fault::VpsFault;
 use mv_bits::{BitReader, BitWriter};
-use mv_common::{put_u8_if, u8_if};
-use mv_vpsext::{Derived, VpsExt};
+use mv_fields::{put_u8_if, u8_if};
+use mv_layers::Derived;
+use mv_vpsext::VpsExt;
 use std::alloc::{AllocError, Global};
 use std::marker::Model;
 
@@ -71,7 +72,7 @@ pub(crate) fn fields_of(alloc: Global, bits: &mut BitReader) -> Result<Vps, VpsF
 
 /// Writes the fields of a video parameter set at the head of a payload, up to the tail.
 #[tactic(auto, unfolding(crate::specs::Vps::vps_fields))]
-pub(crate) fn put_fields(alloc: Global, out: &mut BitWriter, v: &Vps) -> Result<(), AllocError>
+pub(crate) fn put_fields(out: &mut BitWriter, v: &Vps) -> Result<(), AllocError>
     requires at_head { out.old ≡ [] }
     requires few { v.now.coded.0.base.head.vps_max_sub_layers_minus1 ≤ 6 }
     requires args { AreVpsArgs (args_of v.now.coded.0.base) }
@@ -79,7 +80,7 @@ pub(crate) fn put_fields(alloc: Global, out: &mut BitWriter, v: &Vps) -> Result<
     ensures { OnOk result (out.new ≡ put vps_fields v.now.coded.0 out.old) }
 {
     put_aligned_base(out, &v.base)?;
-    put_extension(alloc, out, &v.base, &v.extension)?;
+    put_extension(out, &v.base, &v.extension)?;
     put_u8_if(
         out,
         has_extension2_flag(&v.extension),

@@ -6,7 +6,7 @@ use Rattle.mv_syntax.specs.Table.{when, Valid, read}
 use Rattle.mv_syntax.specs.Words.{◌otherwise◌}
 use Rattle.mv_syntax.proofs.TableLaws.{reads-read}
 use Rattle.mv_syntax.proofs.LoopLaws.{items-length, items-valid}
-use Rattle.mv_vpsext.specs.declared.dimensions.VpsLayer.{VpsLayer}
+use Rattle.mv_vpsext.specs.Dimensions.{VpsDimensionsValue}
 use Rattle.mv_vpsext.specs.Args.{VpsArgsValue, AreVpsArgs, layer_set, layer_sets}
 use Rattle.mv_vpsext.specs.Dependencies.{VpsDependenciesValue, sub_layers_max, all_sub_layers_max, dependencies}
 use Rattle.mv_vpsext.specs.Profiles.{VpsProfilesValue, profiles}
@@ -51,14 +51,14 @@ coded_within n c (Some coded) h k =
     (λ within. let here = items-valid sub_layers_max 0 (n + 1) coded k (0 + k) 0 h.1 within refl in not_seven (get_or coded k 0) here.0 here.1)
     (omega arith)
 
-pub sub_layers_of_valid : (m : ℕ) (layers : List VpsLayer) (sets : List (List ℕ)) (v : VpsDependenciesValue) → Valid (dependencies m layers sets) v
+pub sub_layers_of_valid : (m : ℕ) (first : VpsDimensionsValue) (sets : List (List ℕ)) (v : VpsDependenciesValue) → Valid (dependencies m first sets) v
     → (k : ℕ) → get_or (v.sub_layers_vps_max_minus1 otherwise []) k 0 ≤ 6
 unfolding dependencies
-sub_layers_of_valid m layers sets v h k = coded_within m _ v.sub_layers_vps_max_minus1 h.0.1.1.1.0 k
+sub_layers_of_valid m first sets v h k = coded_within m _ v.sub_layers_vps_max_minus1 h.0.1.1.1.0 k
 
-pub sub_layers_of_read : (m : ℕ) (layers : List VpsLayer) (sets : List (List ℕ)) (b : List Bool) (v : VpsDependenciesValue) (rest : List Bool)
-    → read (dependencies m layers sets) b ≡ Ok (v, rest) → (k : ℕ) → get_or (v.sub_layers_vps_max_minus1 otherwise []) k 0 ≤ 6
-sub_layers_of_read m layers sets b v rest e k = sub_layers_of_valid m layers sets v (reads-read (dependencies m layers sets) b v rest e).0 k
+pub sub_layers_of_read : (m : ℕ) (first : VpsDimensionsValue) (sets : List (List ℕ)) (b : List Bool) (v : VpsDependenciesValue) (rest : List Bool)
+    → read (dependencies m first sets) b ≡ Ok (v, rest) → (k : ℕ) → get_or (v.sub_layers_vps_max_minus1 otherwise []) k 0 ≤ 6
+sub_layers_of_read m first sets b v rest e k = sub_layers_of_valid m first sets v (reads-read (dependencies m first sets) b v rest e).0 k
 
 -- there are at most 64 profile_tier_level
 pub profiles_of_valid : (s : ℕ) (v : VpsProfilesValue) → Valid (profiles s) v → v.vps_num_profile_tier_level_minus1 ≤ 63

@@ -1,11 +1,8 @@
 pub mod Sharing
-pub mod Ranges
-pub mod AnyLaws
+pub mod SetSteps
 pub mod DimensionLaws
-pub mod ClosureLaws
 pub mod Reordering
 pub mod Bounds
-pub mod Collecting
-pub mod ReachLaws
 pub mod SetLayerLaws
 pub mod Extensions
+pub mod Orderly

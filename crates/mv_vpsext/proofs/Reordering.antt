@@ -1,5 +1,5 @@
 -- The reorder number of an output layer set: that of the last sub-layer for which one is coded, at most 15.
-use Rattle.std.proofs.Common.{◌≡◌, ℕ, suc, ◌+◌, ◌<◌, ◌≤◌, Bool, false, List, [], ◌∷◌, ◌++◌, get_or, length, map, take, Option, Some, None, option_map, refl, ap, ◌∙◌, arith}
+use Rattle.std.proofs.Common.{◌≡◌, ℕ, suc, ◌+◌, ◌-◌, ◌<◌, ◌≤◌, Bool, false, List, [], ◌∷◌, ◌++◌, get_or, length, map, take, Option, Some, None, option_map, refl, ap, ◌∙◌, arith}
 use Rattle.std.proofs.lemmas.List.{map_more, take_all}
 use Rattle.std.proofs.lemmas.Bool.{ltb-false}
 use Rattle.mv_syntax.specs.Table.{when, Valid}
@@ -56,9 +56,9 @@ set_within layers set h =
     (λ k lt. (0 + k, items-valid (dpb_sub_layer layers.necessary set.sub_layer_flag_info_present_flag) 0 (layers.greatest + 1) set.sub_layers k (0 + k) _ h.0.1 lt refl))
     (omega arith)
 
-pub reorder_within : (n : ℕ) (sets : List DpbLayers) (all : List DpbSetValue) → Valid (dpb_size n sets) all → (k : ℕ) → reorder_pics (get_or all k no_dpb) ≤ 15
+pub reorder_within : (sets : List DpbLayers) (all : List DpbSetValue) → Valid (dpb_size sets) all → (k : ℕ) → reorder_pics (get_or all k no_dpb) ≤ 15
 unfolding dpb_size dpb_of_set
-reorder_within n sets all h k =
+reorder_within sets all h k =
     at_each_place (λ set. reorder_pics set ≤ 15) all no_dpb k
-    (λ within. set_within _ _ (items-valid (dpb_of_set sets) 1 n all k (1 + k) no_dpb h within refl))
+    (λ within. set_within _ _ (items-valid (dpb_of_set sets) 1 (length sets - 1) all k (1 + k) no_dpb h within refl))
     (omega arith)

@@ -1,15 +1,18 @@
--- The greatest sub-layer of a set of layers is at most 6, and there is one set for each number below the count.
-use Rattle.std.proofs.Common.{ℕ, zero, suc, ◌≤◌, max, List, [], ◌∷◌, get_or, map, Option, Some, None, arith}
+-- The greatest sub-layer of a set of layers is at most 6.
+use Rattle.std.proofs.Common.{◌≡◌, ℕ, zero, suc, ◌≤◌, max, List, [], ◌∷◌, get_or, length, map, Option, Some, None, option_map, refl, ap, arith}
 use Rattle.std.specs.List.{fold}
 use Rattle.mv_syntax.specs.Words.{◌otherwise◌}
-use Rattle.mv_vpsext.specs.LayerInfos.{LayerInfoValue, layer_index}
+use Rattle.mv_layers.specs.LayerInfos.{LayerInfoValue, layer_index}
+use Rattle.mv_layers.specs.OutputLayers.{OlsLayers}
+use Rattle.mv_layers.specs.PerLayer.{sub_layers_at}
 use Rattle.mv_vpsext.specs.DpbSizes.{DpbLayers, no_layers}
-use Rattle.mv_vpsext.specs.Sets.{OlsLayers, sub_layers_at, dpb_layers}
+use Rattle.mv_vpsext.specs.Sets.{sub_layers_of, dpb_layers}
 
-sub_layers_small : (most : ℕ) (coded : Option (List ℕ)) → most ≤ 6 → ((k : ℕ) → get_or (coded otherwise []) k 0 ≤ 6) → (i : Option ℕ) → sub_layers_at most coded i ≤ 6
-sub_layers_small most None h small i = h
-sub_layers_small most (Some coded) h small None = omega arith
-sub_layers_small most (Some coded) h small (Some i) = small i
+at_small : (most : ℕ) (coded : Option (List ℕ)) → most ≤ 6 → ((k : ℕ) → get_or (coded otherwise []) k 0 ≤ 6) → (i : Option ℕ)
+    → (option_map (sub_layers_at most coded) i otherwise 0) ≤ 6
+at_small most coded h small None = omega arith
+at_small most None h small (Some i) = h
+at_small most (Some coded) h small (Some i) = small i
 
 greatest_small : (f : ℕ → ℕ) → ((id : ℕ) → f id ≤ 6) → (so_far : ℕ) (ids : List ℕ) → so_far ≤ 6 → fold (λ greatest id. max greatest (f id)) so_far ids ≤ 6
 greatest_small f small so_far [] h = h
@@ -18,9 +21,13 @@ greatest_small f small so_far (id ∷ ids) h = greatest_small f small (max so_fa
 pub dpb_layers_small : (infos : List LayerInfoValue) (most : ℕ) (coded : Option (List ℕ)) → most ≤ 6 → ((k : ℕ) → get_or (coded otherwise []) k 0 ≤ 6)
     → (set : OlsLayers) → (dpb_layers infos most coded set).greatest ≤ 6
 dpb_layers_small infos most coded h small set =
-    greatest_small (λ id. sub_layers_at most coded (layer_index infos id)) (λ id. sub_layers_small most coded h small (layer_index infos id)) 0 set.layers (omega arith)
+    greatest_small (sub_layers_of infos most coded) (λ id. at_small most coded h small (layer_index infos id)) 0 set.layers (omega arith)
 
-pub all_small : (f : ℕ → DpbLayers) → ((i : ℕ) → (f i).greatest ≤ 6) → (is : List ℕ) (k : ℕ) → (get_or (map f is) k no_layers).greatest ≤ 6
+pub all_small : (f : OlsLayers → DpbLayers) → ((set : OlsLayers) → (f set).greatest ≤ 6) → (sets : List OlsLayers) (k : ℕ) → (get_or (map f sets) k no_layers).greatest ≤ 6
 all_small f small [] k = omega arith
-all_small f small (i ∷ is) zero = small i
-all_small f small (i ∷ is) (suc k) = all_small f small is k
+all_small f small (set ∷ sets) zero = small set
+all_small f small (set ∷ sets) (suc k) = all_small f small sets k
+
+pub length-map : {A B : Type 0} (f : A → B) (xs : List A) → length (map f xs) ≡ length xs
+length-map f [] = refl
+length-map f (x ∷ xs) = ap suc (length-map f xs)

@@ -5,9 +5,10 @@ use Rattle.mv_syntax.specs.Table.{Table, Reads, Cut, by_rule, counted_as, read}
 use Rattle.mv_syntax.specs.Answers.{Refuses, FailsAs}
 use Rattle.mv_syntax.proofs.BitLaws.{take_bits-printed}
 use Rattle.mv_syntax.proofs.TableLaws.{Answered, table_answered, put-is}
-use Rattle.mv_common.specs.Faults.{means as shared_means}
-use Rattle.mv_common.specs.declared.fault.FieldFault.{FieldFault}
-use Rattle.mv_common.specs.declared.fault.FieldFault.TheVariants.{NoBits as no_bits, Limit as past_limit, Memory as no_memory}
+use Rattle.mv_fields.specs.Faults.{shared_means}
+use Rattle.mv_fields.specs.declared.fault.Fault.{Fault as SharedFault}
+use Rattle.mv_fields.specs.declared.fault.Limit.{Limit}
+use Rattle.mv_fields.specs.declared.fault.Fault.TheVariants.{NoBits as no_bits, Breaks as past_limit, Memory as no_memory}
 use Rattle.mv_vpsext.specs.Faults.{means, of_shared}
 
 -- where a call says why nothing reads, the reader on lists answers so
@@ -27,10 +28,10 @@ pub shared_reads : {A : Type 0} (r : ℕ) (t : Table A) (b : List Bool) (v : A) 
 shared_reads r t b v rest h = ap (counted_as r) ((table_answered t b).value (v, rest) h)
 
 -- a fault of a shared table is one of the header
-pub shared_fails : {A : Type 0} (t : Table A) (b : List Bool) (fault : FieldFault)
+pub shared_fails : {A : Type 0} (t : Table A) (b : List Bool) (fault : SharedFault Limit)
     → Refuses {V = A × List Bool} (λ v. Reads t b v.0 v.1) (Cut t b) (shared_means fault) → FailsAs (means (of_shared fault)) (read (by_rule 26 t) b)
 shared_fails t b no_bits why = ap (counted_as 26) (fails (read t b) (λ v. Reads t b v.0 v.1) (Cut t b) (table_answered t b) (Some short) why)
-shared_fails t b past_limit why = ap (counted_as 26) ((table_answered t b).rule 0 why)
+shared_fails t b (past_limit limit) why = ap (counted_as 26) ((table_answered t b).rule 0 why)
 shared_fails t b no_memory why = tt
 
 -- What a writer of a shared structure needs.

@@ -1,12 +1,15 @@
 -- vps_extension (F.7.3.2.1.1), second part, up to max_tid_il_ref_pics_plus1: the references between layers.
-use Rattle.std.specs.Prelude.{ℕ, ◌+◌, ◌-◌, Bool, List, [], ◌∷◌, length, Option, refl}
-use Rattle.std.specs.List.{list_any, filter}
+use Rattle.std.specs.Prelude.{ℕ, ◌+◌, ◌-◌, List, [], ◌∷◌, Option, refl}
+use Rattle.std.specs.List.{list_any}
 use Rattle.mv_syntax.specs.Table.{Table, ◌>>=◌, u, ue, named, when, shaped}
 use Rattle.mv_syntax.specs.Words.{◌▸◌, ◌>>◌, ◌!◌∶◌, tried, over, is, is_set}
 use Rattle.mv_syntax.specs.Loops.{items}
-use Rattle.mv_vpsext.specs.declared.dimensions.VpsLayer.{VpsLayer}
-use Rattle.mv_vpsext.specs.Layers.{VpsLayers, depends, independent, layer_indexes}
-use Rattle.mv_vpsext.specs.LayerSets.{lacks_base, not_closed, has_unknown}
+use Rattle.mv_rules.specs.declared.rule.Rule.TheVariants.{AddedLayerSets, LayerSetBase, LayerSetClosure, LayerSetUnknown, VpsLimit}
+use Rattle.mv_layers.specs.References.{depends}
+use Rattle.mv_layers.specs.LayerInfos.{LayerInfoValue, independent_layers}
+use Rattle.mv_layers.specs.LayerSets.{lacks_base, not_closed, has_unknown}
+use Rattle.mv_vpsext.specs.Dimensions.{VpsDimensionsValue}
+use Rattle.mv_vpsext.specs.Layers.{layers_described}
 
 -- for i = 1 to vps_max_layers_minus1, for j = 0 to i-1
 unfoldable pub dependency_flag : ℕ → ℕ → Table ℕ
@@ -18,22 +21,18 @@ layer_dependencies i = items 0 i (dependency_flag i)
 unfoldable pub dependency_flags : ℕ → Table (List (List ℕ))
 dependency_flags vps_max_layers_minus1 = items 1 vps_max_layers_minus1 layer_dependencies
 
--- More than one layer has no direct reference layer.
-abbrev pub many_independent : ℕ → List (List ℕ) → Bool
-many_independent vps_max_layers_minus1 flags = over 1 (length (filter (independent flags) (layer_indexes vps_max_layers_minus1)))
-
 -- num_add_layer_sets: the layer sets are tried before it (21 to 23), and none is added (AddedLayerSets, 19).
-unfoldable pub added_layer_sets : VpsLayers → List (List ℕ) → Table (Option ℕ)
-added_layer_sets vps sets = tried
-    ((21, list_any lacks_base sets)
-    ∷ (22, list_any (not_closed vps) sets)
-    ∷ (23, list_any (has_unknown vps) sets)
+unfoldable pub added_layer_sets : List LayerInfoValue → List (List ℕ) → Table (Option ℕ)
+added_layer_sets infos sets = tried
+    ((LayerSetBase, list_any lacks_base sets)
+    ∷ (LayerSetClosure, list_any (not_closed infos) sets)
+    ∷ (LayerSetUnknown, list_any (has_unknown infos) sets)
     ∷ [])
-    (named "num_add_layer_sets" (when (many_independent vps.vps_max_layers_minus1 vps.direct_dependency_flag) (ue ! 19 ∶ over 0)))
+    (named "num_add_layer_sets" (when (over 1 (independent_layers infos)) (ue ! AddedLayerSets ∶ over 0)))
 
 -- for i = 0 to vps_max_layers_minus1
 unfoldable pub sub_layers_max : ℕ → Table ℕ
-sub_layers_max i = named "sub_layers_vps_max_minus1" (u 3 ! 26 ∶ is 7)
+sub_layers_max i = named "sub_layers_vps_max_minus1" (u 3 ! VpsLimit ∶ is 7)
 
 unfoldable pub all_sub_layers_max : ℕ → Table (List ℕ)
 all_sub_layers_max vps_max_layers_minus1 = items 0 (vps_max_layers_minus1 + 1) sub_layers_max
@@ -56,15 +55,16 @@ pub record VpsDependenciesValue : Type 0 where
   pub max_tid_ref_present_flag : ℕ
   pub max_tid_il_ref_pics_plus1 : Option (List (List (Option ℕ)))
 
-unfoldable pub dependencies : ℕ → List VpsLayer → List (List ℕ) → Table VpsDependenciesValue
-dependencies vps_max_layers_minus1 layers sets = shaped
-    (λ c. record {
-      direct_dependency_flag = c.0;
-      num_add_layer_sets = c.1.0;
-      vps_sub_layers_max_minus1_present_flag = c.1.1.0;
-      sub_layers_vps_max_minus1 = c.1.1.1.0;
-      max_tid_ref_present_flag = c.1.1.1.1.0;
-      max_tid_il_ref_pics_plus1 = c.1.1.1.1.1;
+-- The layer sets are those from 1 on.
+unfoldable pub dependencies : ℕ → VpsDimensionsValue → List (List ℕ) → Table VpsDependenciesValue
+dependencies vps_max_layers_minus1 first sets = shaped
+    (λ (direct_dependency_flag, (num_add_layer_sets, (vps_sub_layers_max_minus1_present_flag, (sub_layers_vps_max_minus1, (max_tid_ref_present_flag, max_tid_il_ref_pics_plus1))))). record {
+      direct_dependency_flag = direct_dependency_flag;
+      num_add_layer_sets = num_add_layer_sets;
+      vps_sub_layers_max_minus1_present_flag = vps_sub_layers_max_minus1_present_flag;
+      sub_layers_vps_max_minus1 = sub_layers_vps_max_minus1;
+      max_tid_ref_present_flag = max_tid_ref_present_flag;
+      max_tid_il_ref_pics_plus1 = max_tid_il_ref_pics_plus1;
     })
     (λ v.
     v.direct_dependency_flag
@@ -76,7 +76,7 @@ dependencies vps_max_layers_minus1 layers sets = shaped
     (λ _. refl)
     do
       direct_dependency_flag ← dependency_flags vps_max_layers_minus1
-      added_layer_sets (record { vps_max_layers_minus1 = vps_max_layers_minus1; layers = layers; direct_dependency_flag = direct_dependency_flag }) sets
+      added_layer_sets (layers_described vps_max_layers_minus1 first.layers first.view_id_val direct_dependency_flag) sets
       vps_sub_layers_max_minus1_present_flag ← named "vps_sub_layers_max_minus1_present_flag" (u 1)
       when (is_set vps_sub_layers_max_minus1_present_flag) (all_sub_layers_max vps_max_layers_minus1)
       max_tid_ref_present_flag ← named "max_tid_ref_present_flag" (u 1)

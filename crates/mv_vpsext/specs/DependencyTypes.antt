@@ -3,12 +3,13 @@ use Rattle.std.specs.Prelude.{ℕ, ◌+◌, not, List, Option, refl}
 use Rattle.mv_syntax.specs.Table.{Table, ◌>>=◌, u, ue, named, when, shaped}
 use Rattle.mv_syntax.specs.Words.{◌▸◌, ◌>>◌, ◌!◌∶◌, over, is_set}
 use Rattle.mv_syntax.specs.Loops.{items}
-use Rattle.mv_vpsext.specs.Layers.{depends}
+use Rattle.mv_rules.specs.declared.rule.Rule.TheVariants.{DependencyType, VpsLimit}
+use Rattle.mv_layers.specs.References.{depends}
 
 -- A type of reference is at most 2, or else breaks DependencyType (25). for i = 1 to vps_max_layers_minus1, for j = 0 to i-1,
 -- where layer i refers directly to layer j
 unfoldable pub dependency_type : ℕ → List (List ℕ) → ℕ → ℕ → Table (Option ℕ)
-dependency_type width flags i j = named "direct_dependency_type" (when (depends flags i j) (u width ! 25 ∶ over 2))
+dependency_type width flags i j = named "direct_dependency_type" (when (depends flags i j) (u width ! DependencyType ∶ over 2))
 
 unfoldable pub layer_dependency_types : ℕ → List (List ℕ) → ℕ → Table (List (Option ℕ))
 layer_dependency_types width flags i = items 0 i (dependency_type width flags i)
@@ -34,14 +35,14 @@ pub record VpsDependencyTypesValue : Type 0 where
 
 unfoldable pub types : ℕ → List (List ℕ) → Table VpsDependencyTypesValue
 types vps_max_layers_minus1 flags = shaped
-    (λ c. record {
-      direct_dep_type_len_minus2 = c.0;
-      direct_dependency_all_layers_flag = c.1.0;
-      direct_dependency_all_layers_type = c.1.1.0;
-      direct_dependency_type = c.1.1.1.0;
-      vps_non_vui_extension_length = c.1.1.1.1.0;
-      vps_non_vui_extension_data_byte = c.1.1.1.1.1.0;
-      vps_vui_present_flag = c.1.1.1.1.1.1;
+    (λ (direct_dep_type_len_minus2, (direct_dependency_all_layers_flag, (direct_dependency_all_layers_type, (direct_dependency_type, (vps_non_vui_extension_length, (vps_non_vui_extension_data_byte, vps_vui_present_flag)))))). record {
+      direct_dep_type_len_minus2 = direct_dep_type_len_minus2;
+      direct_dependency_all_layers_flag = direct_dependency_all_layers_flag;
+      direct_dependency_all_layers_type = direct_dependency_all_layers_type;
+      direct_dependency_type = direct_dependency_type;
+      vps_non_vui_extension_length = vps_non_vui_extension_length;
+      vps_non_vui_extension_data_byte = vps_non_vui_extension_data_byte;
+      vps_vui_present_flag = vps_vui_present_flag;
     })
     (λ v.
     v.direct_dep_type_len_minus2
@@ -53,10 +54,10 @@ types vps_max_layers_minus1 flags = shaped
     ▸ v.vps_vui_present_flag)
     (λ _. refl)
     do
-      direct_dep_type_len_minus2 ← named "direct_dep_type_len_minus2" (ue ! 26 ∶ over 30)
+      direct_dep_type_len_minus2 ← named "direct_dep_type_len_minus2" (ue ! VpsLimit ∶ over 30)
       direct_dependency_all_layers_flag ← named "direct_dependency_all_layers_flag" (u 1)
-      named "direct_dependency_all_layers_type" (when (is_set direct_dependency_all_layers_flag) (u (direct_dep_type_len_minus2 + 2) ! 25 ∶ over 2))
+      named "direct_dependency_all_layers_type" (when (is_set direct_dependency_all_layers_flag) (u (direct_dep_type_len_minus2 + 2) ! DependencyType ∶ over 2))
       when (not (is_set direct_dependency_all_layers_flag)) (dependency_types vps_max_layers_minus1 (direct_dep_type_len_minus2 + 2) flags)
-      vps_non_vui_extension_length ← named "vps_non_vui_extension_length" (ue ! 26 ∶ over 4096)
+      vps_non_vui_extension_length ← named "vps_non_vui_extension_length" (ue ! VpsLimit ∶ over 4096)
       extension_bytes vps_non_vui_extension_length
       named "vps_vui_present_flag" (u 1)

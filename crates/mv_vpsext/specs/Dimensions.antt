@@ -1,17 +1,19 @@
 -- vps_extension (F.7.3.2.1.1), first part, up to view_id_val: the profile of layer 0, the scalability dimensions and the views.
 use Rattle.std.specs.Prelude.{ℕ, ◌+◌, Bool, false, not, ◌&&◌, ◌||◌, List, get_or, length, Option, refl, nat_eq, nat_le, if◌then◌else◌}
 use Rattle.std.specs.List.{list_any}
-use Rattle.mv_syntax.specs.Table.{Table, ◌>>=◌, u, named, when, by_rule, shaped}
-use Rattle.mv_syntax.specs.Words.{◌▸◌, ◌>>◌, ◌!◌∶◌, over, is_set, or_zero}
+use Rattle.mv_syntax.specs.Table.{Table, ◌>>=◌, u, named, when, shaped}
+use Rattle.mv_syntax.specs.Words.{◌under◌, ◌▸◌, ◌>>◌, ◌!◌∶◌, over, is_set, or_zero}
 use Rattle.mv_syntax.specs.Loops.{items, items_after}
+use Rattle.mv_rules.specs.declared.rule.Rule.{Rule}
+use Rattle.mv_rules.specs.declared.rule.Rule.TheVariants.{Depth, Spatial, Auxiliary, ReservedDimension, NoViewDimension, SameView, Splitting, VpsLimit}
 use Rattle.mv_common.specs.ProfileTier.{ProfileTierValue, profile_tier_level}
 use Rattle.mv_vpsext.specs.declared.dimensions.VpsLayer.{VpsLayer}
 use Rattle.mv_vpsext.specs.Layers.{nuh_layer_id}
 
--- The rule that scalability_mask_flag[i] can break: Depth (13) at 0, NoViewDimension (17) at 1, Spatial (14) at 2, Auxiliary
--- (15) at 3, ReservedDimension (16) from 4 on (this project's profile).
-abbrev pub mask_rule : ℕ → ℕ
-mask_rule i = if nat_eq i 0 then 13 else (if nat_eq i 1 then 17 else (if nat_eq i 2 then 14 else (if nat_eq i 3 then 15 else 16)))
+-- The rule that scalability_mask_flag[i] can break (this project's profile).
+abbrev pub mask_rule : ℕ → Rule
+mask_rule i =
+    if nat_eq i 0 then Depth else (if nat_eq i 1 then NoViewDimension else (if nat_eq i 2 then Spatial else (if nat_eq i 3 then Auxiliary else ReservedDimension)))
 
 -- scalability_mask_flag[i] breaks it: views, of index 1, have to be there with more than one layer, and no other dimension.
 abbrev pub mask_breaks : ℕ → ℕ → ℕ → Bool
@@ -35,17 +37,17 @@ same_view before id = nat_eq id 0 || list_any (λ (earlier : VpsLayer). nat_eq e
 -- The layer of index i, behind those from index 1 on.
 unfoldable pub vps_layer : Bool → ℕ → ℕ → List VpsLayer → Table VpsLayer
 vps_layer present dimension_id_len i before = shaped
-    (λ c. record {
-      layer_id_in_nuh = c.0;
-      dimension_id = c.1;
+    (λ (layer_id_in_nuh, dimension_id). record {
+      layer_id_in_nuh = layer_id_in_nuh;
+      dimension_id = dimension_id;
     })
     (λ v.
     v.layer_id_in_nuh
     ▸ v.dimension_id)
     (λ _. refl)
     do
-      named "layer_id_in_nuh" (when present (u 6 ! 26 ∶ no_layer_id (nuh_layer_id before (length before))))
-      named "dimension_id" (u dimension_id_len ! 18 ∶ same_view before)
+      named "layer_id_in_nuh" (when present (u 6 ! VpsLimit ∶ no_layer_id (nuh_layer_id before (length before))))
+      named "dimension_id" (u dimension_id_len ! SameView ∶ same_view before)
 
 -- for i = 1 to vps_max_layers_minus1
 unfoldable pub vps_layers : ℕ → Bool → ℕ → Table (List VpsLayer)
@@ -75,15 +77,15 @@ pub record VpsDimensionsValue : Type 0 where
 
 unfoldable pub dimensions : ℕ → ℕ → Table VpsDimensionsValue
 dimensions vps_max_layers_minus1 vps_max_sub_layers_minus1 = shaped
-    (λ c. record {
-      profile_tier_level = c.0;
-      splitting_flag = c.1.0;
-      scalability_mask_flag = c.1.1.0;
-      dimension_id_len_minus1 = c.1.1.1.0;
-      vps_nuh_layer_id_present_flag = c.1.1.1.1.0;
-      layers = c.1.1.1.1.1.0;
-      view_id_len = c.1.1.1.1.1.1.0;
-      view_id_val = c.1.1.1.1.1.1.1;
+    (λ (profile_tier_level, (splitting_flag, (scalability_mask_flag, (dimension_id_len_minus1, (vps_nuh_layer_id_present_flag, (layers, (view_id_len, view_id_val))))))). record {
+      profile_tier_level = profile_tier_level;
+      splitting_flag = splitting_flag;
+      scalability_mask_flag = scalability_mask_flag;
+      dimension_id_len_minus1 = dimension_id_len_minus1;
+      vps_nuh_layer_id_present_flag = vps_nuh_layer_id_present_flag;
+      layers = layers;
+      view_id_len = view_id_len;
+      view_id_val = view_id_val;
     })
     (λ v.
     v.profile_tier_level
@@ -96,11 +98,11 @@ dimensions vps_max_layers_minus1 vps_max_sub_layers_minus1 = shaped
     ▸ v.view_id_val)
     (λ _. refl)
     do
-      when (over 0 vps_max_layers_minus1) (by_rule 26 (profile_tier_level false vps_max_sub_layers_minus1))
-      named "splitting_flag" (u 1 ! 12 ∶ is_set)
+      when (over 0 vps_max_layers_minus1) (profile_tier_level false vps_max_sub_layers_minus1 under VpsLimit)
+      named "splitting_flag" (u 1 ! Splitting ∶ is_set)
       scalability_mask_flag ← mask_flags vps_max_layers_minus1
       dimension_id_len_minus1 ← named "dimension_id_len_minus1" (when (is_set (get_or scalability_mask_flag 1 0)) (u 3))
       vps_nuh_layer_id_present_flag ← named "vps_nuh_layer_id_present_flag" (u 1)
       layers ← vps_layers vps_max_layers_minus1 (is_set vps_nuh_layer_id_present_flag) (or_zero dimension_id_len_minus1 + 1)
-      view_id_len ← named "view_id_len" (u 4 ! 26 ∶ lacks_view_id vps_max_layers_minus1 layers)
+      view_id_len ← named "view_id_len" (u 4 ! VpsLimit ∶ lacks_view_id vps_max_layers_minus1 layers)
       when (over 0 view_id_len) (view_id_vals vps_max_layers_minus1 view_id_len)

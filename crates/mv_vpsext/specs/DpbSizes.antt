@@ -1,8 +1,9 @@
 -- dpb_size (F.7.3.2.1.3), the sixth part of vps_extension: what a decoder has to hold for an output layer set.
-use Rattle.std.specs.Prelude.{ℕ, ◌+◌, Bool, false, ◌&&◌, ◌||◌, List, [], get_or, length, Option, refl, nat_eq}
+use Rattle.std.specs.Prelude.{ℕ, ◌+◌, ◌-◌, Bool, false, ◌&&◌, ◌||◌, List, [], get_or, length, Option, refl, nat_eq}
 use Rattle.mv_syntax.specs.Table.{Table, ◌>>=◌, u, ue, named, when, shaped}
 use Rattle.mv_syntax.specs.Words.{◌▸◌, ◌>>◌, ◌!◌∶◌, over, is_set, coded_set}
 use Rattle.mv_syntax.specs.Loops.{items}
+use Rattle.mv_rules.specs.declared.rule.Rule.TheVariants.{VpsLimit}
 
 -- What dpb_size takes of an output layer set: whether each of its layers is necessary, and the greatest
 -- sub_layers_vps_max_minus1 of its layers.
@@ -27,10 +28,10 @@ pub record DpbNumbersValue : Type 0 where
 
 unfoldable pub dpb_numbers : List Bool → Table DpbNumbersValue
 dpb_numbers necessary = shaped
-    (λ c. record {
-      max_vps_dec_pic_buffering_minus1 = c.0;
-      max_vps_num_reorder_pics = c.1.0;
-      max_vps_latency_increase_plus1 = c.1.1;
+    (λ (max_vps_dec_pic_buffering_minus1, (max_vps_num_reorder_pics, max_vps_latency_increase_plus1)). record {
+      max_vps_dec_pic_buffering_minus1 = max_vps_dec_pic_buffering_minus1;
+      max_vps_num_reorder_pics = max_vps_num_reorder_pics;
+      max_vps_latency_increase_plus1 = max_vps_latency_increase_plus1;
     })
     (λ v.
     v.max_vps_dec_pic_buffering_minus1
@@ -39,7 +40,7 @@ dpb_numbers necessary = shaped
     (λ _. refl)
     do
       bufferings necessary
-      named "max_vps_num_reorder_pics" (ue ! 26 ∶ over 15)
+      named "max_vps_num_reorder_pics" (ue ! VpsLimit ∶ over 15)
       named "max_vps_latency_increase_plus1" ue
 
 pub record DpbSubLayerValue : Type 0 where
@@ -49,9 +50,9 @@ pub record DpbSubLayerValue : Type 0 where
 -- Sub-layer j: sub_layer_dpb_info_present_flag is 1 for the lowest, and 0 where else it isn't coded.
 unfoldable pub dpb_sub_layer : List Bool → ℕ → ℕ → Table DpbSubLayerValue
 dpb_sub_layer necessary sub_layer_flag_info_present_flag j = shaped
-    (λ c. record {
-      sub_layer_dpb_info_present_flag = c.0;
-      numbers = c.1;
+    (λ (sub_layer_dpb_info_present_flag, numbers). record {
+      sub_layer_dpb_info_present_flag = sub_layer_dpb_info_present_flag;
+      numbers = numbers;
     })
     (λ v.
     v.sub_layer_dpb_info_present_flag
@@ -72,9 +73,9 @@ pub record DpbSetValue : Type 0 where
 
 unfoldable pub dpb_set : DpbLayers → Table DpbSetValue
 dpb_set set = shaped
-    (λ c. record {
-      sub_layer_flag_info_present_flag = c.0;
-      sub_layers = c.1;
+    (λ (sub_layer_flag_info_present_flag, sub_layers). record {
+      sub_layer_flag_info_present_flag = sub_layer_flag_info_present_flag;
+      sub_layers = sub_layers;
     })
     (λ v.
     v.sub_layer_flag_info_present_flag
@@ -88,5 +89,5 @@ dpb_set set = shaped
 unfoldable pub dpb_of_set : List DpbLayers → ℕ → Table DpbSetValue
 dpb_of_set sets i = dpb_set (get_or sets i no_layers)
 
-unfoldable pub dpb_size : ℕ → List DpbLayers → Table (List DpbSetValue)
-dpb_size num_output_layer_sets_minus1 sets = items 1 num_output_layer_sets_minus1 (dpb_of_set sets)
+unfoldable pub dpb_size : List DpbLayers → Table (List DpbSetValue)
+dpb_size sets = items 1 (length sets - 1) (dpb_of_set sets)

@@ -1,13 +1,14 @@
 -- What the faults of a video parameter set's extension say of the bits.
 use Rattle.std.specs.Prelude.{ℕ, Option, Some, None, nat_eq, if◌then◌else◌}
 use Rattle.mv_syntax.specs.Bits.{Fault, short, breaks}
-use Rattle.mv_io.specs.Rule.{rule_number}
-use Rattle.mv_io.specs.declared.refusal.ReadFault.{ReadFault}
-use Rattle.mv_io.specs.declared.refusal.ReadFault.TheVariants.{Refused, Memory as out_of_memory}
-use Rattle.mv_io.specs.declared.rule.Rule.{Rule}
-use Rattle.mv_io.specs.declared.rule.Rule.TheVariants.{VpsLimit}
-use Rattle.mv_common.specs.declared.fault.FieldFault.{FieldFault}
-use Rattle.mv_common.specs.declared.fault.FieldFault.TheVariants.{NoBits as no_bits, Limit as past_limit, Memory as no_memory}
+use Rattle.mv_rules.specs.Rule.{rule_number}
+use Rattle.mv_rules.specs.declared.refusal.ReadFault.{ReadFault}
+use Rattle.mv_rules.specs.declared.refusal.ReadFault.TheVariants.{Refused, Memory as out_of_memory}
+use Rattle.mv_rules.specs.declared.rule.Rule.{Rule}
+use Rattle.mv_rules.specs.declared.rule.Rule.TheVariants.{VpsLimit}
+use Rattle.mv_fields.specs.declared.fault.Fault.{Fault as SharedFault}
+use Rattle.mv_fields.specs.declared.fault.Limit.{Limit}
+use Rattle.mv_fields.specs.declared.fault.Fault.TheVariants.{NoBits as no_bits, Breaks as past_limit, Memory as no_memory}
 use Rattle.mv_vpsext.specs.declared.fault.ExtFault.{ExtFault}
 use Rattle.mv_vpsext.specs.declared.fault.ExtFault.TheVariants.{NoBits, Breaks, Memory}
 
@@ -31,7 +32,7 @@ means (Breaks rule) = Some (refused_as rule)
 means Memory = None
 
 -- A fault of a structure that headers share: past its limit is VpsLimit.
-abbrev pub of_shared : FieldFault → ExtFault
+abbrev pub of_shared : SharedFault Limit → ExtFault
 of_shared no_bits = NoBits
-of_shared past_limit = Breaks VpsLimit
+of_shared (past_limit limit) = Breaks VpsLimit
 of_shared no_memory = Memory

@@ -1,12 +1,9 @@
 pub mod Faults
 pub mod Args
 pub mod Layers
-pub mod LayerInfos
-pub mod LayerSets
 pub mod Dimensions
 pub mod Dependencies
 pub mod Profiles
-pub mod OutputLayers
 pub mod OutputSets
 pub mod Formats
 pub mod DpbSizes

@@ -3,9 +3,10 @@ use Rattle.std.specs.Prelude.{ℕ, ◌+◌, ◌-◌, Bool, ◌&&◌, ◌||◌, L
 use Rattle.mv_syntax.specs.Table.{Table, ◌>>=◌, u, ue, named, when, shaped}
 use Rattle.mv_syntax.specs.Words.{◌▸◌, ◌>>◌, ◌!◌∶◌, over, is, is_set, or_zero}
 use Rattle.mv_syntax.specs.Loops.{items}
+use Rattle.mv_rules.specs.declared.rule.Rule.TheVariants.{AltOutput, ReservedOutput, VpsLimit}
 use Rattle.mv_fields.specs.Widths.{clog2}
-use Rattle.mv_vpsext.specs.LayerInfos.{LayerInfoValue}
-use Rattle.mv_vpsext.specs.OutputLayers.{ols_layers, ols_outputs, is_necessary, one_output_refers}
+use Rattle.mv_layers.specs.LayerInfos.{LayerInfoValue}
+use Rattle.mv_layers.specs.OutputLayers.{OlsLayers, ols_layers, ols_outputs, is_among, with_necessary, one_output_refers}
 
 -- for each layer j of the set
 unfoldable pub output_layer_flag : ℕ → Table ℕ
@@ -15,14 +16,20 @@ unfoldable pub output_layer_flags : ℕ → Table (List ℕ)
 output_layer_flags num_layers = items 0 num_layers output_layer_flag
 
 -- for each layer j of the set, where it is necessary and there are several profile_tier_level
-unfoldable pub profile_tier_level_idx : List LayerInfoValue → ℕ → List ℕ → List ℕ → ℕ → Table (Option ℕ)
-profile_tier_level_idx infos vps_num_profile_tier_level_minus1 outputs layers j =
-    named "profile_tier_level_idx" (when (is_necessary infos outputs (get_or layers j 0) && over 0 vps_num_profile_tier_level_minus1)
+unfoldable pub profile_tier_level_idx : ℕ → OlsLayers → ℕ → Table (Option ℕ)
+profile_tier_level_idx vps_num_profile_tier_level_minus1 set j =
+    named "profile_tier_level_idx" (when (is_among set.necessary (get_or set.layers j 0) && over 0 vps_num_profile_tier_level_minus1)
     (u (clog2 (vps_num_profile_tier_level_minus1 + 1))))
 
-unfoldable pub profile_tier_level_idxs : List LayerInfoValue → ℕ → List ℕ → List ℕ → Table (List (Option ℕ))
-profile_tier_level_idxs infos vps_num_profile_tier_level_minus1 outputs layers =
-    items 0 (length layers) (profile_tier_level_idx infos vps_num_profile_tier_level_minus1 outputs layers)
+unfoldable pub profile_tier_level_idxs : ℕ → OlsLayers → Table (List (Option ℕ))
+profile_tier_level_idxs vps_num_profile_tier_level_minus1 set =
+    items 0 (length set.layers) (profile_tier_level_idx vps_num_profile_tier_level_minus1 set)
+
+-- alt_output_layer_flag, where the set has one output, which has direct reference layers; no alternative outputs (AltOutput, 20).
+unfoldable pub set_profiles : List LayerInfoValue → ℕ → OlsLayers → Table (List (Option ℕ) × Option ℕ)
+set_profiles infos vps_num_profile_tier_level_minus1 set = do
+  profile_tier_level_idxs vps_num_profile_tier_level_minus1 set
+  named "alt_output_layer_flag" (when (one_output_refers infos set.outputs) (u 1 ! AltOutput ∶ is_set))
 
 pub record OutputLayerSetValue : Type 0 where
   pub layer_set_idx_for_ols_minus1 : Option ℕ
@@ -30,14 +37,14 @@ pub record OutputLayerSetValue : Type 0 where
   pub profile_tier_level_idx : List (Option ℕ)
   pub alt_output_layer_flag : Option ℕ
 
--- Output layer set i. The layer set of one behind NumLayerSets is at most the last (26); no alternative outputs (AltOutput, 20).
+-- Output layer set i. The layer set of one behind NumLayerSets is at most the last (26).
 unfoldable pub output_layer_set : List LayerInfoValue → List (List ℕ) → ℕ → ℕ → ℕ → Table OutputLayerSetValue
 output_layer_set infos sets vps_num_profile_tier_level_minus1 idc i = shaped
-    (λ c. record {
-      layer_set_idx_for_ols_minus1 = c.0;
-      output_layer_flag = c.1.0;
-      profile_tier_level_idx = c.1.1.0;
-      alt_output_layer_flag = c.1.1.1;
+    (λ (layer_set_idx_for_ols_minus1, (output_layer_flag, (profile_tier_level_idx, alt_output_layer_flag))). record {
+      layer_set_idx_for_ols_minus1 = layer_set_idx_for_ols_minus1;
+      output_layer_flag = output_layer_flag;
+      profile_tier_level_idx = profile_tier_level_idx;
+      alt_output_layer_flag = alt_output_layer_flag;
     })
     (λ v.
     v.layer_set_idx_for_ols_minus1
@@ -47,11 +54,10 @@ output_layer_set infos sets vps_num_profile_tier_level_minus1 idc i = shaped
     (λ _. refl)
     let num_layer_sets : ℕ = length sets + 1 in do
       layer_set_idx_for_ols_minus1 ← named "layer_set_idx_for_ols_minus1" (when (over 2 num_layer_sets && nat_le num_layer_sets i)
-          (u (clog2 (num_layer_sets - 1)) ! 26 ∶ over (num_layer_sets - 2)))
+          (u (clog2 (num_layer_sets - 1)) ! VpsLimit ∶ over (num_layer_sets - 2)))
       let layers : List ℕ = ols_layers sets i layer_set_idx_for_ols_minus1 in do
         flags ← when (nat_le num_layer_sets i || nat_eq idc 2) (output_layer_flags (length layers))
-        profile_tier_level_idxs infos vps_num_profile_tier_level_minus1 (ols_outputs layers flags idc) layers
-        named "alt_output_layer_flag" (when (one_output_refers infos (ols_outputs layers flags idc)) (u 1 ! 20 ∶ is_set))
+        set_profiles infos vps_num_profile_tier_level_minus1 (with_necessary infos layers (ols_outputs layers flags idc))
 
 -- for i = 1 to NumOutputLayerSets - 1
 unfoldable pub output_layer_sets : List LayerInfoValue → List (List ℕ) → ℕ → ℕ → ℕ → Table (List OutputLayerSetValue)
@@ -70,10 +76,10 @@ past_output_sets num_layer_sets num_add_olss = over 64 (num_layer_sets + num_add
 -- default_output_layer_idc 3 is reserved: ReservedOutput, 24 (this project's profile).
 unfoldable pub output_sets : List LayerInfoValue → List (List ℕ) → ℕ → Table VpsOutputSetsValue
 output_sets infos sets vps_num_profile_tier_level_minus1 = shaped
-    (λ c. record {
-      num_add_olss = c.0;
-      default_output_layer_idc = c.1.0;
-      output_layer_sets = c.1.1;
+    (λ (num_add_olss, (default_output_layer_idc, output_layer_sets)). record {
+      num_add_olss = num_add_olss;
+      default_output_layer_idc = default_output_layer_idc;
+      output_layer_sets = output_layer_sets;
     })
     (λ v.
     v.num_add_olss
@@ -81,6 +87,6 @@ output_sets infos sets vps_num_profile_tier_level_minus1 = shaped
     ▸ v.output_layer_sets)
     (λ _. refl)
     do
-      num_add_olss ← named "num_add_olss" (when (over 1 (length sets + 1)) (ue ! 26 ∶ past_output_sets (length sets + 1)))
-      default_output_layer_idc ← named "default_output_layer_idc" (when (over 1 (length sets + 1)) (u 2 ! 24 ∶ is 3))
+      num_add_olss ← named "num_add_olss" (when (over 1 (length sets + 1)) (ue ! VpsLimit ∶ past_output_sets (length sets + 1)))
+      default_output_layer_idc ← named "default_output_layer_idc" (when (over 1 (length sets + 1)) (u 2 ! ReservedOutput ∶ is 3))
       output_layer_sets infos sets vps_num_profile_tier_level_minus1 (or_zero num_add_olss) (or_zero default_output_layer_idc)

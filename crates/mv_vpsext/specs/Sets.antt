@@ -1,52 +1,43 @@
 -- The output layer sets of a video parameter set (F.7.4.3.1.1), from the values of its extension.
-use Rattle.std.specs.Prelude.{ℕ, zero, suc, ◌+◌, max, List, [], ◌∷◌, get_or, length, map, Option, Some, None}
-use Rattle.std.specs.List.{filter, fold, range_with_len}
-use Rattle.mv_syntax.specs.Words.{or_zero}
-use Rattle.mv_vpsext.specs.LayerInfos.{LayerInfoValue, layer_index}
-use Rattle.mv_vpsext.specs.OutputLayers.{ols_layers, ols_outputs, is_necessary}
+use Rattle.std.specs.Prelude.{ℕ, ◌+◌, max, List, [], ◌∷◌, length, map, Option, None, option_map}
+use Rattle.std.specs.List.{fold, enumerate_from}
+use Rattle.mv_syntax.specs.Words.{or_zero, ◌otherwise◌}
+use Rattle.mv_layers.specs.LayerInfos.{LayerInfoValue, layer_index}
+use Rattle.mv_layers.specs.OutputLayers.{OlsLayers, ols_layers, ols_outputs, is_among, with_necessary}
+use Rattle.mv_layers.specs.PerLayer.{sub_layers_at}
 use Rattle.mv_vpsext.specs.OutputSets.{OutputLayerSetValue, VpsOutputSetsValue}
 use Rattle.mv_vpsext.specs.DpbSizes.{DpbLayers}
 
--- The layers, outputs and necessary layers of an output layer set, by nuh_layer_id, rising.
-pub record OlsLayers : Type 0 where
-  pub layers : List ℕ
-  pub outputs : List ℕ
-  pub necessary : List ℕ
+-- Output layer set i, from 1 on, as it is coded. The layer sets are those from 1 on.
+abbrev pub coded_set : List LayerInfoValue → List (List ℕ) → ℕ → ℕ → OutputLayerSetValue → OlsLayers
+coded_set infos sets idc i coded =
+    let layers : List ℕ = ols_layers sets i coded.layer_set_idx_for_ols_minus1 in
+    with_necessary infos layers (ols_outputs layers coded.output_layer_flag idc)
 
--- The layers and outputs, and of the layers those that are necessary.
-abbrev pub with_necessary : List LayerInfoValue → List ℕ → List ℕ → OlsLayers
-with_necessary infos layers outputs =
-    record { layers = layers; outputs = outputs; necessary = filter (is_necessary infos outputs) layers }
+-- Those from 1 on.
+unfoldable pub coded_sets : List LayerInfoValue → List (List ℕ) → ℕ → List OutputLayerSetValue → List OlsLayers
+coded_sets infos sets idc coded = map (λ numbered. coded_set infos sets idc numbered.0 numbered.1) (enumerate_from 1 coded)
 
-abbrev pub no_set : OutputLayerSetValue
-no_set = record { layer_set_idx_for_ols_minus1 = None; output_layer_flag = None; profile_tier_level_idx = []; alt_output_layer_flag = None }
+-- Output layer set 0 has layer 0 alone, as its output.
+abbrev pub base_set : List LayerInfoValue → OlsLayers
+base_set infos = with_necessary infos (0 ∷ []) (0 ∷ [])
 
--- Output layer set i: set 0 has layer 0 alone, as its output, and the others are coded.
-abbrev pub ols : List LayerInfoValue → List (List ℕ) → VpsOutputSetsValue → ℕ → OlsLayers
-ols infos sets coded zero = with_necessary infos (0 ∷ []) (0 ∷ [])
-ols infos sets coded (suc k) =
-    let set : OutputLayerSetValue = get_or coded.output_layer_sets k no_set in
-    let layers : List ℕ = ols_layers sets (suc k) set.layer_set_idx_for_ols_minus1 in
-    with_necessary infos layers (ols_outputs layers set.output_layer_flag (or_zero coded.default_output_layer_idc))
+-- Those from 0 on.
+abbrev pub all_sets : List LayerInfoValue → List (List ℕ) → VpsOutputSetsValue → List OlsLayers
+all_sets infos sets coded = base_set infos ∷ coded_sets infos sets (or_zero coded.default_output_layer_idc) coded.output_layer_sets
 
--- NumOutputLayerSets - 1, the flags of the layer sets being those from layer set 1 on.
-abbrev pub more_output_sets : List (List ℕ) → VpsOutputSetsValue → ℕ
-more_output_sets sets coded = length sets + or_zero coded.num_add_olss
-
--- sub_layers_vps_max_minus1 of a layer: where it isn't coded, vps_max_sub_layers_minus1.
-abbrev pub sub_layers_at : ℕ → Option (List ℕ) → Option ℕ → ℕ
-sub_layers_at vps_max_sub_layers_minus1 None i = vps_max_sub_layers_minus1
-sub_layers_at vps_max_sub_layers_minus1 (Some coded) None = 0
-sub_layers_at vps_max_sub_layers_minus1 (Some coded) (Some i) = get_or coded i 0
+-- sub_layers_vps_max_minus1 of a layer by its nuh_layer_id.
+abbrev pub sub_layers_of : List LayerInfoValue → ℕ → Option (List ℕ) → ℕ → ℕ
+sub_layers_of infos vps_max_sub_layers_minus1 coded id =
+    option_map (sub_layers_at vps_max_sub_layers_minus1 coded) (layer_index infos id) otherwise 0
 
 -- What dpb_size takes of an output layer set.
 abbrev pub dpb_layers : List LayerInfoValue → ℕ → Option (List ℕ) → OlsLayers → DpbLayers
 dpb_layers infos vps_max_sub_layers_minus1 coded set = record {
-  necessary = map (is_necessary infos set.outputs) set.layers;
-  greatest = fold (λ so_far id. max so_far (sub_layers_at vps_max_sub_layers_minus1 coded (layer_index infos id))) 0 set.layers;
+  necessary = map (is_among set.necessary) set.layers;
+  greatest = fold (λ so_far id. max so_far (sub_layers_of infos vps_max_sub_layers_minus1 coded id)) 0 set.layers;
 }
 
--- The same of each output layer set, from 0 on.
-unfoldable pub all_dpb_layers : List LayerInfoValue → ℕ → Option (List ℕ) → List (List ℕ) → VpsOutputSetsValue → List DpbLayers
-all_dpb_layers infos vps_max_sub_layers_minus1 sub_layers sets coded =
-    map (λ i. dpb_layers infos vps_max_sub_layers_minus1 sub_layers (ols infos sets coded i)) (range_with_len 0 (more_output_sets sets coded + 1))
+-- The same of each of some output layer sets.
+unfoldable pub all_dpb_layers : List LayerInfoValue → ℕ → Option (List ℕ) → List OlsLayers → List DpbLayers
+all_dpb_layers infos vps_max_sub_layers_minus1 coded all = map (dpb_layers infos vps_max_sub_layers_minus1 coded) all

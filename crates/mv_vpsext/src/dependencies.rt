@@ -1,33 +1,20 @@
-ghost use Rattle.std.specs.Prelude.{◌≡◌, ◌≤◌, length, OnOk, option_map};
+ghost use Rattle.std.specs.Prelude.{◌≡◌, ◌≤◌, length, OnOk, IfOk, option_map};
 ghost use Rattle.mv_syntax.specs.Table.{when, Valid, read, put};
 ghost use Rattle.mv_syntax.specs.Answers.{Fills};
 ghost use Rattle.mv_vpsext.specs.Faults.{means};
+ghost use Rattle.mv_vpsext.specs.Layers.{layers_described};
 ghost use Rattle.mv_vpsext.specs.Dependencies.{dependency_flag, layer_dependencies, dependency_flags, added_layer_sets, sub_layers_max, all_sub_layers_max, max_tid, layer_max_tids, max_tids, dependencies};
 
 use crate::added_layer_sets::{added_layer_sets_of, put_added_layer_sets};
-use crate::args::LayerSet;
-use crate::dimensions::VpsLayer;
+use crate::dimensions::VpsDimensions;
 use crate::fault::ExtFault;
-use crate::layers::depends;
+use crate::layers::layers_described;
 use mv_bits::{BitReader, BitWriter};
-use mv_common::{put_u8, put_u8_if, u8_if, u8_of};
-use mv_io::Rule;
+use mv_fields::{put_u8, put_u8_if, u8_if, u8_of};
+use mv_layers::{LayerDependencies, LayerInfo, LayerSet, depends};
+use mv_rules::Rule;
 use std::alloc::{AllocError, Global};
 use std::marker::Model;
-
-/// The direct references of one layer to those before it.
-#[derive(Debug, Drop)]
-pub struct LayerDependencies {
-    pub direct_dependency_flag: Vec<u8>,
-}
-
-impl Model for LayerDependencies {
-    ghost use Rattle.std.specs.Prelude.{ℕ, List};
-
-    ghost Value = { List ℕ };
-
-    ghost view = { λ d. d.direct_dependency_flag.items };
-}
 
 /// Up to which temporal identifier one layer serves as reference for those behind it.
 #[derive(Debug, Drop)]
@@ -223,25 +210,28 @@ fn max_tids_if(
     Ok(Some(max_tids_of(alloc, bits, vps_max_layers_minus1, flags)?))
 }
 
+/// The second part, and the layers that it describes together with the first.
 #[tactic(auto, unfolding(crate::specs::Dependencies::dependencies))]
 pub(crate) fn dependencies_of(
     alloc: Global,
     bits: &mut BitReader,
     vps_max_layers_minus1: u8,
-    layers: &[VpsLayer],
+    first: &VpsDimensions,
     sets: &[LayerSet],
-) -> Result<VpsDependencies, ExtFault>
+) -> Result<(VpsDependencies, Vec<LayerInfo>), ExtFault>
     requires few { vps_max_layers_minus1 ≤ 62 }
-    ensures { Fills (λ v. v) means bits.old bits.new result (read (dependencies vps_max_layers_minus1 layers.now sets.now) bits.old.left) }
+    ensures reads { Fills (λ v. v.0) means bits.old bits.new result (read (dependencies vps_max_layers_minus1 first.now sets.now) bits.old.left) }
+    ensures layers { IfOk result (λ v. v.1.items ≡ layers_described vps_max_layers_minus1 first.now.layers first.now.view_id_val v.0.direct_dependency_flag) }
 {
     let flags = dependency_flags_of(alloc, bits, vps_max_layers_minus1)?;
-    let num_add_layer_sets = added_layer_sets_of(
-        bits,
+    let infos = layers_described(
+        alloc,
         vps_max_layers_minus1,
-        layers,
+        &first.layers,
+        &first.view_id_val,
         &flags,
-        sets,
     )?;
+    let num_add_layer_sets = added_layer_sets_of(alloc, bits, &infos, sets)?;
     let vps_sub_layers_max_minus1_present_flag = u8_of(bits, 1)?;
     let sub_layers_vps_max_minus1 = all_sub_layers_max_if(
         alloc,
@@ -257,14 +247,15 @@ pub(crate) fn dependencies_of(
         vps_max_layers_minus1,
         &flags,
     )?;
-    Ok(VpsDependencies {
+    let dependencies = VpsDependencies {
         direct_dependency_flag: flags,
         num_add_layer_sets,
         vps_sub_layers_max_minus1_present_flag,
         sub_layers_vps_max_minus1,
         max_tid_ref_present_flag,
         max_tid_il_ref_pics_plus1,
-    })
+    };
+    Ok((dependencies, infos))
 }
 
 #[tactic(auto, unfolding(crate::specs::Dependencies::dependency_flag))]
@@ -444,25 +435,20 @@ pub(crate) fn put_dependencies(
     out: &mut BitWriter,
     v: &VpsDependencies,
     vps_max_layers_minus1: u8,
-    layers: &[VpsLayer],
+    first: &VpsDimensions,
+    infos: &[LayerInfo],
     sets: &[LayerSet],
 ) -> Result<(), AllocError>
     requires few { vps_max_layers_minus1 ≤ 62 }
-    requires valid { Valid (dependencies vps_max_layers_minus1 layers.now sets.now) v.now }
-    ensures { OnOk result (out.new ≡ put (dependencies vps_max_layers_minus1 layers.now sets.now) v.now out.old) }
+    requires layers { infos.now ≡ layers_described vps_max_layers_minus1 first.now.layers first.now.view_id_val v.now.direct_dependency_flag }
+    requires valid { Valid (dependencies vps_max_layers_minus1 first.now sets.now) v.now }
+    ensures { OnOk result (out.new ≡ put (dependencies vps_max_layers_minus1 first.now sets.now) v.now out.old) }
 {
     let flags = &v.direct_dependency_flag;
     let sub_layers_coded = v.vps_sub_layers_max_minus1_present_flag == 1;
     let tids_coded = v.max_tid_ref_present_flag == 1;
     put_dependency_flags(out, flags, vps_max_layers_minus1)?;
-    put_added_layer_sets(
-        out,
-        v.num_add_layer_sets,
-        vps_max_layers_minus1,
-        layers,
-        flags,
-        sets,
-    )?;
+    put_added_layer_sets(out, v.num_add_layer_sets, infos, sets)?;
     put_u8(out, 1, v.vps_sub_layers_max_minus1_present_flag)?;
     put_all_sub_layers_max_if(
         out,

@@ -4,13 +4,12 @@ ghost use Rattle.mv_syntax.specs.Answers.{Fills};
 ghost use Rattle.mv_vpsext.specs.Faults.{means};
 ghost use Rattle.mv_vpsext.specs.DependencyTypes.{dependency_type, layer_dependency_types, dependency_types, extension_byte, extension_bytes, types};
 
-use crate::dependencies::LayerDependencies;
 use crate::fault::ExtFault;
 use crate::fields::{u32_within_if, ue_within};
-use crate::layers::depends;
 use mv_bits::{BitReader, BitWriter};
-use mv_common::{put_u8, put_u32_if, put_ue, u8_of};
-use mv_io::Rule;
+use mv_fields::{put_u8, put_u32_if, put_ue, u8_of};
+use mv_layers::{LayerDependencies, depends};
+use mv_rules::Rule;
 use std::alloc::{AllocError, Global};
 use std::marker::Model;
 

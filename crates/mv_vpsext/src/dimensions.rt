@@ -4,17 +4,19 @@ ghost use Rattle.mv_vpsext.specs.declared.dimensions.VpsLayer.{VpsLayer as Layer
 ghost use Rattle.mv_syntax.specs.Table.{u, when, Valid, read, put};
 ghost use Rattle.mv_syntax.specs.Words.{◌!◌∶◌, over, is_set, or_zero};
 ghost use Rattle.mv_syntax.specs.Answers.{Fills};
-ghost use Rattle.mv_io.specs.Rule.{rule_number};
+ghost use Rattle.mv_rules.specs.Rule.{rule_number};
 ghost use Rattle.mv_vpsext.specs.Faults.{means, syntax_rule};
 ghost use Rattle.mv_vpsext.specs.Dimensions.{mask_rule, mask_breaks, mask_flag, mask_flags, no_layer_id, same_view, vps_layer, vps_layers, view_id_val, view_id_vals, lacks_view_id, dimensions};
+ghost use Rattle.mv_rules.specs.declared.rule.Rule.TheVariants.{SameView, VpsLimit};
 
 use crate::fault::ExtFault;
 use crate::fields::unset_flag;
 use crate::layers::nuh_layer_id;
 use crate::shared::{profile_tier_if, put_profile_tier_if};
 use mv_bits::{BitReader, BitWriter};
-use mv_common::{ProfileTier, put_u8, put_u8_if, put_u16, u8_if, u8_of, u16_of};
-use mv_io::Rule;
+use mv_common::ProfileTier;
+use mv_fields::{or_zero, put_u8, put_u8_if, put_u16, u8_of, u16_of};
+use mv_rules::Rule;
 use std::alloc::{AllocError, Global};
 use std::marker::Model;
 
@@ -60,7 +62,7 @@ impl Model for VpsDimensions {
 
 // The rule that the scalability mask flag of this index can break.
 fn mask_rule(i: u8) -> Rule
-    ensures number { rule_number result ≡ mask_rule i }
+    ensures is { result ≡ mask_rule i }
     ensures no_syntax_rule { rule_number result ≢ syntax_rule }
 {
     match i {
@@ -142,7 +144,7 @@ fn id_width(dimension_id_len_minus1: Option<u8>) -> u8
 
 // The next field layer_id_in_nuh, behind a layer of the nuh_layer_id `before`, where it is present.
 fn layer_id_if(bits: &mut BitReader, present: bool, before: u8) -> Result<Option<u8>, ExtFault>
-    ensures { Fills (λ v. v) means bits.old bits.new result (read (when present (u 6 ! 26 ∶ no_layer_id before)) bits.old.left) }
+    ensures { Fills (λ v. v) means bits.old bits.new result (read (when present (u 6 ! VpsLimit ∶ no_layer_id before)) bits.old.left) }
 {
     if !present {
         return Ok(None);
@@ -155,21 +157,10 @@ fn layer_id_if(bits: &mut BitReader, present: bool, before: u8) -> Result<Option
 }
 
 // Whether a layer has this view order index.
-fn has_view(layer: &VpsLayer, id: u8) -> bool
-    ensures { result ≡ nat_eq layer.now.dimension_id id }
-{
-    layer.dimension_id == id
-}
-
 fn any_has_view(layers: &[VpsLayer], id: u8) -> bool
     ensures { result ≡ list_any (λ (layer : Layer). nat_eq layer.dimension_id id) layers.now }
 {
-    for layer in layers {
-        if has_view(layer, id) {
-            return true;
-        }
-    }
-    false
+    layers.iter().any(|layer| layer.dimension_id == id)
 }
 
 // Whether a view order index is that of an earlier layer.
@@ -185,7 +176,7 @@ fn same_view(before: &[VpsLayer], id: u8) -> bool
 // The next field dimension_id, of this width, behind these layers.
 fn dimension_id_of(bits: &mut BitReader, width: u8, before: &[VpsLayer]) -> Result<u8, ExtFault>
     requires { width ≤ 8 }
-    ensures { Fills (λ v. v) means bits.old bits.new result (read (u width ! 18 ∶ same_view before.now) bits.old.left) }
+    ensures { Fills (λ v. v) means bits.old bits.new result (read (u width ! SameView ∶ same_view before.now) bits.old.left) }
 {
     let id = u8_of(bits, width)?;
     if same_view(before, id) {
@@ -236,21 +227,12 @@ fn vps_layers_of(
 }
 
 // Whether a layer has a view order index above the greatest layer index.
-fn beyond_views(layer: &VpsLayer, vps_max_layers_minus1: u8) -> bool
-    ensures { result ≡ over vps_max_layers_minus1 layer.now.dimension_id }
-{
-    layer.dimension_id > vps_max_layers_minus1
-}
-
 fn any_beyond_views(layers: &[VpsLayer], vps_max_layers_minus1: u8) -> bool
     ensures { result ≡ list_any (λ (layer : Layer). over vps_max_layers_minus1 layer.dimension_id) layers.now }
 {
-    for layer in layers {
-        if beyond_views(layer, vps_max_layers_minus1) {
-            return true;
-        }
-    }
-    false
+    layers
+        .iter()
+        .any(|layer| layer.dimension_id > vps_max_layers_minus1)
 }
 
 // Whether view identifiers are coded and a view order index has none.
@@ -270,7 +252,7 @@ fn view_id_len_of(
     layers: &[VpsLayer],
 ) -> Result<u8, ExtFault>
     ensures small { IfOk result (λ len. len ≤ 15) }
-    ensures reads { Fills (λ v. v) means bits.old bits.new result (read (u 4 ! 26 ∶ lacks_view_id vps_max_layers_minus1 layers.now) bits.old.left) }
+    ensures reads { Fills (λ v. v) means bits.old bits.new result (read (u 4 ! VpsLimit ∶ lacks_view_id vps_max_layers_minus1 layers.now) bits.old.left) }
 {
     let view_id_len = u8_of(bits, 4)?;
     if lacks_view_id(vps_max_layers_minus1, layers, view_id_len) {

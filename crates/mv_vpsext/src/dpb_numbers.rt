@@ -9,8 +9,8 @@ ghost use Rattle.mv_vpsext.specs.DpbSizes.{buffering, bufferings, dpb_numbers};
 use crate::fault::ExtFault;
 use crate::fields::ue_within;
 use mv_bits::{BitReader, BitWriter};
-use mv_common::{put_ue, put_ue_if, ue_if};
-use mv_io::Rule;
+use mv_fields::{put_ue, put_ue_if, ue_if};
+use mv_rules::Rule;
 use std::alloc::{AllocError, Global};
 use std::marker::Model;
 

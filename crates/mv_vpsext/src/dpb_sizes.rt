@@ -9,7 +9,7 @@ ghost use Rattle.mv_vpsext.specs.DpbSizes.{no_layers, dpb_sub_layer, dpb_sub_lay
 use crate::dpb_numbers::{DpbNumbers, dpb_numbers_if, put_dpb_numbers_if};
 use crate::fault::ExtFault;
 use mv_bits::{BitReader, BitWriter};
-use mv_common::{coded_set, put_u8, put_u8_if, u8_if, u8_of};
+use mv_fields::{coded_set, put_u8, put_u8_if, u8_if, u8_of};
 use std::alloc::{AllocError, Global};
 use std::marker::Model;
 
@@ -183,7 +183,7 @@ pub(crate) fn dpb_size_of(
 ) -> Result<Vec<DpbSizes>, ExtFault>
     requires some { 1 ≤ length sets.now }
     requires few { (k : ℕ) → (get_or sets.now k no_layers).greatest ≤ 6 }
-    ensures { Fills (λ v. v.items) means bits.old bits.new result (read (dpb_size (length sets.now - 1) sets.now) bits.old.left) }
+    ensures { Fills (λ v. v.items) means bits.old bits.new result (read (dpb_size sets.now) bits.old.left) }
 {
     let end = sets.len();
     let mut all = Vec::new(alloc);
@@ -214,8 +214,8 @@ pub(crate) fn put_dpb_size(
     sets: &[SetLayers],
 ) -> Result<(), AllocError>
     requires some { 1 ≤ length sets.now }
-    requires valid { Valid (dpb_size (length sets.now - 1) sets.now) all.now }
-    ensures { OnOk result (out.new ≡ put (dpb_size (length sets.now - 1) sets.now) all.now out.old) }
+    requires valid { Valid (dpb_size sets.now) all.now }
+    ensures { OnOk result (out.new ≡ put (dpb_size sets.now) all.now out.old) }
 {
     for k in 0..all.len() {
         put_dpb_of_set(out, &all[k], sets, k + 1)?;

@@ -3,8 +3,8 @@ ghost use Rattle.mv_vpsext.specs.Faults.{of_shared};
 ghost use Rattle.mv_vpsext.specs.declared.fault.ExtFault.TheVariants.{NoBits as no_bits, Memory};
 
 use mv_bits::NoBits;
-use mv_common::FieldFault;
-use mv_io::Rule;
+use mv_fields::{Fault, Limit};
+use mv_rules::Rule;
 use std::alloc::{AllocError, AllocFailed};
 
 /// Why a part of the extension of a video parameter set was not read.
@@ -26,14 +26,14 @@ impl From<NoBits> for ExtFault {
     }
 }
 
-impl From<FieldFault> for ExtFault {
+impl From<Fault<Limit>> for ExtFault {
     ghost from_gives = { λ fault e. e ≡ of_shared fault };
 
-    fn from(fault: FieldFault) -> ExtFault {
+    fn from(fault: Fault<Limit>) -> ExtFault {
         match fault {
-            FieldFault::NoBits => ExtFault::NoBits,
-            FieldFault::Limit => ExtFault::Breaks(Rule::VpsLimit),
-            FieldFault::Memory => ExtFault::Memory,
+            Fault::NoBits => ExtFault::NoBits,
+            Fault::Breaks(_) => ExtFault::Breaks(Rule::VpsLimit),
+            Fault::Memory => ExtFault::Memory,
         }
     }
 }

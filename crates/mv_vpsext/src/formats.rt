@@ -4,15 +4,13 @@ ghost use Rattle.mv_syntax.specs.Answers.{Fills};
 ghost use Rattle.mv_vpsext.specs.Faults.{means};
 ghost use Rattle.mv_vpsext.specs.Formats.{rep_formats, rep_format_idx, rep_format_idxs, poc_lsb_not_present, poc_lsbs_not_present, formats};
 
-use crate::dependencies::LayerDependencies;
 use crate::fault::ExtFault;
 use crate::fields::{u8_within, ue_within};
-use crate::layers::independent;
 use crate::rep_format::{RepFormat, put_rep_format, rep_format_of};
 use mv_bits::{BitReader, BitWriter};
-use mv_common::{coded_set, put_u8, put_u8_if, put_ue, u8_if, u8_of};
-use mv_fields::clog2;
-use mv_io::Rule;
+use mv_fields::{clog2, coded_set, put_u8, put_u8_if, put_ue, u8_if, u8_of};
+use mv_layers::{LayerDependencies, independent};
+use mv_rules::Rule;
 use std::alloc::{AllocError, Global};
 use std::marker::Model;
 

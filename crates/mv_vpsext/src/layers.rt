@@ -1,46 +1,12 @@
-//! The references between layers, from the flags that are coded of them.
+//! The layers that the first part of the extension and the dependency flags describe.
 
-ghost use Rattle.std.specs.Prelude.{◌≡◌, ◌≤◌, get_or, length};
-ghost use Rattle.mv_syntax.specs.Words.{is_set};
-ghost use Rattle.mv_vpsext.specs.Layers.{nuh_layer_id, view_order_index, depends, independent};
+ghost use Rattle.std.specs.Prelude.{◌≡◌, ◌+◌, ◌≤◌, length, map, IfOk, option_map};
+ghost use Rattle.std.specs.List.{range_with_len};
+ghost use Rattle.mv_vpsext.specs.Layers.{nuh_layer_id, view_order_index, layers_described};
 
-use crate::dependencies::LayerDependencies;
 use crate::dimensions::VpsLayer;
-
-/// Whether the flag at a place is set; beyond the last it isn't.
-pub(crate) fn set_at(flags: &[u8], j: usize) -> bool
-    ensures { result ≡ is_set (get_or flags.now j 0) }
-{
-    match flags.get(j) {
-        Some(flag) => *flag == 1,
-        None => false,
-    }
-}
-
-/// Whether the layer of index i refers directly to that of index j.
-pub(crate) fn depends(flags: &[LayerDependencies], i: usize, j: usize) -> bool
-    ensures { result ≡ depends flags.now i j }
-{
-    if i == 0 {
-        return false;
-    }
-    match flags.get(i - 1) {
-        Some(row) => set_at(&row.direct_dependency_flag, j),
-        None => false,
-    }
-}
-
-/// Whether the layer of index i has no direct reference layer.
-pub(crate) fn independent(flags: &[LayerDependencies], i: usize) -> bool
-    ensures { result ≡ independent flags.now i }
-{
-    for j in 0..i {
-        if depends(flags, i, j) {
-            return false;
-        }
-    }
-    true
-}
+use mv_layers::{CodedLayers, LayerDependencies, LayerInfo, layer_infos};
+use std::alloc::{AllocError, Global};
 
 /// layer_id_in_nuh of the layer of index i: of layer 0 it is 0, and where it isn't coded it is i.
 pub(crate) fn nuh_layer_id(layers: &[VpsLayer], i: usize) -> u8
@@ -56,8 +22,8 @@ pub(crate) fn nuh_layer_id(layers: &[VpsLayer], i: usize) -> u8
     }
 }
 
-/// The view order index of the layer of index i: of layer 0 it is 0.
-pub(crate) fn view_order_index(layers: &[VpsLayer], i: usize) -> u8
+// The view order index of the layer of index i: of layer 0 it is 0.
+fn view_order_index(layers: &[VpsLayer], i: usize) -> u8
     ensures { result ≡ view_order_index layers.now i }
 {
     if i == 0 {
@@ -67,4 +33,53 @@ pub(crate) fn view_order_index(layers: &[VpsLayer], i: usize) -> u8
         Some(layer) => layer.dimension_id,
         None => 0,
     }
+}
+
+// The nuh_layer_id of the first layers, so many of them.
+#[tactic(auto, using(mv_layers::proofs::Collecting::collect_steps))]
+fn layer_ids(alloc: Global, layers: &[VpsLayer], count: usize) -> Result<Vec<u8>, AllocError>
+    requires { count ≤ 63 }
+    ensures { IfOk result (λ v. v.items ≡ map (nuh_layer_id layers.now) (range_with_len 0 count)) }
+{
+    let mut all = Vec::new(alloc);
+    for i in 0..count {
+        all.push(nuh_layer_id(layers, i))?;
+    }
+    Ok(all)
+}
+
+// The view order indexes of the first layers, so many of them.
+#[tactic(auto, using(mv_layers::proofs::Collecting::collect_steps))]
+fn view_orders(alloc: Global, layers: &[VpsLayer], count: usize) -> Result<Vec<u8>, AllocError>
+    ensures { IfOk result (λ v. v.items ≡ map (view_order_index layers.now) (range_with_len 0 count)) }
+{
+    let mut all = Vec::new(alloc);
+    for i in 0..count {
+        all.push(view_order_index(layers, i))?;
+    }
+    Ok(all)
+}
+
+/// The layers, by their indexes (F.7.4.3.1.1).
+#[tactic(auto, unfolding(crate::specs::Layers::layers_described))]
+pub(crate) fn layers_described(
+    alloc: Global,
+    vps_max_layers_minus1: u8,
+    layers: &[VpsLayer],
+    view_id_val: &Option<Vec<u16>>,
+    flags: &[LayerDependencies],
+) -> Result<Vec<LayerInfo>, AllocError>
+    requires { vps_max_layers_minus1 ≤ 62 }
+    ensures { IfOk result (λ v. v.items ≡ layers_described vps_max_layers_minus1 layers.now (option_map (λ v. v.items) view_id_val.now) flags.now) }
+{
+    let count = usize::from(vps_max_layers_minus1) + 1;
+    let layer_id_in_nuh = layer_ids(alloc, layers, count)?;
+    let view_order_index = view_orders(alloc, layers, count)?;
+    let coded = CodedLayers {
+        layer_id_in_nuh: &layer_id_in_nuh,
+        view_order_index: &view_order_index,
+        view_id_val,
+        direct_dependency_flag: flags,
+    };
+    layer_infos(alloc, &coded)
 }

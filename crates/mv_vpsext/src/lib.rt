@@ -1,4 +1,4 @@
-//! The extension of a video parameter set (H.265 F.7.3.2.1.1): it is read and written exactly, and what is derived of it too.
+//! The extension of a video parameter set (H.265 F.7.3.2.1.1): it is read and written exactly, and what it describes.
 #![tactic(auto)]
 
 mod added_layer_sets;
@@ -13,29 +13,23 @@ mod fault;
 mod fields;
 mod formats;
 mod laws;
-mod layer_infos;
-mod layer_sets;
 mod layers;
-mod output_layers;
 mod output_sets;
 mod parts;
 mod profiles;
-mod reached;
 mod rep_format;
-mod set_layers;
+mod sets;
 mod shared;
 mod vps_ext;
 
-pub use args::{LayerSet, VpsArgs};
-pub use dependencies::{LayerDependencies, LayerMaxTids, VpsDependencies};
+pub use args::VpsArgs;
+pub use dependencies::{LayerMaxTids, VpsDependencies};
 pub use dependency_types::{LayerDependencyTypes, VpsDependencyTypes};
-pub use derived::{Derived, Ols};
 pub use dimensions::{VpsDimensions, VpsLayer};
 pub use dpb_numbers::DpbNumbers;
 pub use dpb_sizes::{DpbSizes, DpbSubLayer};
 pub use formats::VpsFormats;
-pub use laws::{closure_laws, vps_extension_laws};
-pub use layer_infos::LayerInfo;
+pub use laws::vps_extension_laws;
 pub use output_sets::{OutputLayerSet, VpsOutputSets};
 pub use profiles::{VpsProfile, VpsProfiles};
 pub use rep_format::{ChromaAndDepth, ConformanceWindow, RepFormat};

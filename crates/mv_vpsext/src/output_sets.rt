@@ -1,24 +1,22 @@
 //! The fourth part of vps_extension (F.7.3.2.1.1): the output layer sets.
 
-ghost use Rattle.std.specs.Prelude.{◌≡◌, ℕ, ◌+◌, ◌-◌, ◌≤◌, [], get_or, length, IfOk, OnOk, option_map};
+ghost use Rattle.std.specs.Prelude.{◌≡◌, ℕ, ◌+◌, ◌-◌, ◌≤◌, [], ◌∷◌, get_or, length, IfOk, OnOk, option_map};
 ghost use Rattle.mv_syntax.specs.Table.{u, ue, when, Valid, read, put};
 ghost use Rattle.mv_syntax.specs.Words.{◌!◌∶◌, over, is, or_zero};
 ghost use Rattle.mv_syntax.specs.Answers.{Fills};
 ghost use Rattle.mv_vpsext.specs.Faults.{means};
 ghost use Rattle.mv_fields.specs.Widths.{clog2};
-ghost use Rattle.mv_vpsext.specs.OutputSets.{output_layer_flag, output_layer_flags, profile_tier_level_idx, profile_tier_level_idxs, output_layer_set, output_layer_sets, past_output_sets, output_sets};
+ghost use Rattle.mv_vpsext.specs.Sets.{base_set, coded_set, coded_sets, all_sets};
+ghost use Rattle.mv_vpsext.specs.OutputSets.{output_layer_flag, output_layer_flags, profile_tier_level_idx, profile_tier_level_idxs, set_profiles, output_layer_set, output_layer_sets, past_output_sets, output_sets};
+ghost use Rattle.mv_rules.specs.declared.rule.Rule.TheVariants.{ReservedOutput, VpsLimit};
 
-use crate::args::LayerSet;
 use crate::fault::ExtFault;
 use crate::fields::{u8_within, unset_flag_if};
-use crate::layer_infos::LayerInfo;
-use crate::output_layers::{
-    is_necessary, layer_at, ols_layers_of, ols_outputs_of, one_output_refers,
-};
+use crate::sets::{has_one_output, is_necessary_at, number_of_layers, one_set};
 use mv_bits::{BitReader, BitWriter};
-use mv_common::{put_u8, put_u8_if, put_ue_if, u8_if, u8_of};
-use mv_fields::clog2;
-use mv_io::Rule;
+use mv_fields::{clog2, coded_set, or_zero, put_u8, put_u8_if, put_ue_if, u8_if, u8_of};
+use mv_layers::{LayerInfo, LayerSet, OlsLayers, ols_layers, ols_of, ols_outputs};
+use mv_rules::Rule;
 use std::alloc::{AllocError, Global};
 use std::marker::Model;
 
@@ -150,7 +148,7 @@ fn layer_set_idx_if(
 ) -> Result<Option<u8>, ExtFault>
     requires few { num_layer_sets ≤ 64 }
     requires some { 1 ≤ num_layer_sets }
-    ensures { Fills (λ v. v) means bits.old bits.new result (read (when present (u (clog2 (num_layer_sets - 1)) ! 26 ∶ over (num_layer_sets - 2))) bits.old.left) }
+    ensures { Fills (λ v. v) means bits.old bits.new result (read (when present (u (clog2 (num_layer_sets - 1)) ! VpsLimit ∶ over (num_layer_sets - 2))) bits.old.left) }
 {
     if !present {
         return Ok(None);
@@ -163,16 +161,14 @@ fn layer_set_idx_if(
 #[tactic(auto, unfolding(crate::specs::OutputSets::profile_tier_level_idx))]
 fn profile_tier_level_idx_of(
     bits: &mut BitReader,
-    infos: &[LayerInfo],
     vps_num_profile_tier_level_minus1: u32,
-    outputs: &[u8],
-    layers: &[u8],
+    set: &OlsLayers,
     j: usize,
 ) -> Result<Option<u8>, ExtFault>
     requires { vps_num_profile_tier_level_minus1 ≤ 63 }
-    ensures { Fills (λ v. v) means bits.old bits.new result (read (profile_tier_level_idx infos.now vps_num_profile_tier_level_minus1 outputs.now layers.now j) bits.old.left) }
+    ensures { Fills (λ v. v) means bits.old bits.new result (read (profile_tier_level_idx vps_num_profile_tier_level_minus1 set.now j) bits.old.left) }
 {
-    let necessary = is_necessary(infos, outputs, layer_at(layers, j));
+    let necessary = is_necessary_at(set, j);
     let width = clog2(vps_num_profile_tier_level_minus1 + 1, 8);
     Ok(u8_if(
         bits,
@@ -185,24 +181,40 @@ fn profile_tier_level_idx_of(
 fn profile_tier_level_idxs_of(
     alloc: Global,
     bits: &mut BitReader,
-    infos: &[LayerInfo],
     vps_num_profile_tier_level_minus1: u32,
-    outputs: &[u8],
-    layers: &[u8],
+    set: &OlsLayers,
 ) -> Result<Vec<Option<u8>>, ExtFault>
     requires { vps_num_profile_tier_level_minus1 ≤ 63 }
-    ensures { Fills (λ v. v.items) means bits.old bits.new result (read (profile_tier_level_idxs infos.now vps_num_profile_tier_level_minus1 outputs.now layers.now) bits.old.left) }
+    ensures { Fills (λ v. v.items) means bits.old bits.new result (read (profile_tier_level_idxs vps_num_profile_tier_level_minus1 set.now) bits.old.left) }
 {
     let profiles = vps_num_profile_tier_level_minus1;
-    let end = layers.len();
+    let end = number_of_layers(set);
     let mut all = Vec::new(alloc);
     for j in 0..end {
-        all.push(profile_tier_level_idx_of(bits, infos, profiles, outputs, layers, j)?)?;
+        all.push(profile_tier_level_idx_of(bits, profiles, set, j)?)?;
     }
     Ok(all)
 }
 
-// Output layer set i, the layer sets being those from 1 on.
+// profile_tier_level_idx of the layers of a set, and alt_output_layer_flag.
+#[tactic(auto, unfolding(crate::specs::OutputSets::set_profiles))]
+fn set_profiles_of(
+    alloc: Global,
+    bits: &mut BitReader,
+    infos: &[LayerInfo],
+    vps_num_profile_tier_level_minus1: u32,
+    set: &OlsLayers,
+) -> Result<(Vec<Option<u8>>, Option<u8>), ExtFault>
+    requires { vps_num_profile_tier_level_minus1 ≤ 63 }
+    ensures { Fills (λ v. (v.0.items, v.1)) means bits.old bits.new result (read (set_profiles infos.now vps_num_profile_tier_level_minus1 set.now) bits.old.left) }
+{
+    let alternative = has_one_output(infos, set);
+    let idxs = profile_tier_level_idxs_of(alloc, bits, vps_num_profile_tier_level_minus1, set)?;
+    let alt_output_layer_flag = unset_flag_if(bits, alternative, Rule::AltOutput)?;
+    Ok((idxs, alt_output_layer_flag))
+}
+
+// Output layer set i, the layer sets being those from 1 on, and its layers.
 #[tactic(auto, unfolding(crate::specs::OutputSets::output_layer_set))]
 fn output_layer_set_of(
     alloc: Global,
@@ -212,37 +224,38 @@ fn output_layer_set_of(
     vps_num_profile_tier_level_minus1: u32,
     idc: u8,
     i: usize,
-) -> Result<OutputLayerSet, ExtFault>
+) -> Result<(OutputLayerSet, OlsLayers), ExtFault>
     requires few { length sets.now ≤ 63 }
     requires ids { (k : ℕ) → length (get_or sets.now k []) ≤ 63 }
     requires profiles { vps_num_profile_tier_level_minus1 ≤ 63 }
-    ensures { Fills (λ v. v) means bits.old bits.new result (read (output_layer_set infos.now sets.now vps_num_profile_tier_level_minus1 idc i) bits.old.left) }
+    ensures reads { Fills (λ v. v.0) means bits.old bits.new result (read (output_layer_set infos.now sets.now vps_num_profile_tier_level_minus1 idc i) bits.old.left) }
+    ensures layers { IfOk result (λ v. v.1 ≡ coded_set infos.now sets.now idc i v.0) }
 {
     let num_layer_sets = sets.len() + 1;
     let own = num_layer_sets > 2 && num_layer_sets <= i;
     let layer_set_idx_for_ols_minus1 = layer_set_idx_if(bits, own, num_layer_sets)?;
-    let layers = ols_layers_of(alloc, sets, i, layer_set_idx_for_ols_minus1)?;
+    let layers = ols_layers(alloc, sets, i, layer_set_idx_for_ols_minus1)?;
     let flagged = num_layer_sets <= i || idc == 2;
     let output_layer_flag = output_layer_flags_if(alloc, bits, flagged, layers.len())?;
-    let outputs = ols_outputs_of(alloc, &layers, &output_layer_flag, idc)?;
-    let profile_tier_level_idx = profile_tier_level_idxs_of(
+    let outputs = ols_outputs(alloc, &layers, &output_layer_flag, idc)?;
+    let set = ols_of(alloc, infos, layers, outputs)?;
+    let (profile_tier_level_idx, alt_output_layer_flag) = set_profiles_of(
         alloc,
         bits,
         infos,
         vps_num_profile_tier_level_minus1,
-        &outputs,
-        &layers,
+        &set,
     )?;
-    let alternative = one_output_refers(infos, &outputs);
-    let alt_output_layer_flag = unset_flag_if(bits, alternative, Rule::AltOutput)?;
-    Ok(OutputLayerSet {
+    let coded = OutputLayerSet {
         layer_set_idx_for_ols_minus1,
         output_layer_flag,
         profile_tier_level_idx,
         alt_output_layer_flag,
-    })
+    };
+    Ok((coded, set))
 }
 
+// The output layer sets from 1 on, as they are coded, and the layers of those from 0 on.
 #[tactic(auto, using(mv_syntax::proofs::LoopLaws::item_steps), unfolding(crate::specs::OutputSets::output_layer_sets))]
 fn output_layer_sets_of(
     alloc: Global,
@@ -252,20 +265,23 @@ fn output_layer_sets_of(
     vps_num_profile_tier_level_minus1: u32,
     num_add_olss: u32,
     idc: u8,
-) -> Result<Vec<OutputLayerSet>, ExtFault>
+) -> Result<(Vec<OutputLayerSet>, Vec<OlsLayers>), ExtFault>
     requires few { length sets.now + num_add_olss ≤ 63 }
     requires ids { (k : ℕ) → length (get_or sets.now k []) ≤ 63 }
     requires profiles { vps_num_profile_tier_level_minus1 ≤ 63 }
-    ensures { Fills (λ v. v.items) means bits.old bits.new result (read (output_layer_sets infos.now sets.now vps_num_profile_tier_level_minus1 num_add_olss idc) bits.old.left) }
+    ensures reads { Fills (λ v. v.0.items) means bits.old bits.new result (read (output_layer_sets infos.now sets.now vps_num_profile_tier_level_minus1 num_add_olss idc) bits.old.left) }
+    ensures layers { IfOk result (λ v. v.1.items ≡ base_set infos.now ∷ coded_sets infos.now sets.now idc v.0.items) }
 {
     let profiles = vps_num_profile_tier_level_minus1;
     let end = sets.len() + num_add_olss as usize + 1;
+    let mut layers = one_set(alloc, infos)?;
     let mut all = Vec::new(alloc);
     for i in 1..end {
-        let set = output_layer_set_of(alloc, bits, infos, sets, profiles, idc, i)?;
-        all.push(set)?;
+        let (coded, set) = output_layer_set_of(alloc, bits, infos, sets, profiles, idc, i)?;
+        all.push(coded)?;
+        layers.push(set)?;
     }
-    Ok(all)
+    Ok((all, layers))
 }
 
 // Whether there would be over 64 output layer sets with so many more than the layer sets.
@@ -277,7 +293,7 @@ fn past_output_sets(num_layer_sets: usize, num_add_olss: u32) -> bool
 
 // The next field num_add_olss, with so many layer sets; it isn't coded with one.
 fn num_add_olss_of(bits: &mut BitReader, num_layer_sets: usize) -> Result<Option<u32>, ExtFault>
-    ensures reads { Fills (λ v. v) means bits.old bits.new result (read (when (over 1 num_layer_sets) (ue ! 26 ∶ past_output_sets num_layer_sets)) bits.old.left) }
+    ensures reads { Fills (λ v. v) means bits.old bits.new result (read (when (over 1 num_layer_sets) (ue ! VpsLimit ∶ past_output_sets num_layer_sets)) bits.old.left) }
     ensures within { IfOk result (λ v. num_layer_sets + or_zero v ≤ 64) }
 {
     if num_layer_sets <= 1 {
@@ -292,7 +308,7 @@ fn num_add_olss_of(bits: &mut BitReader, num_layer_sets: usize) -> Result<Option
 
 // The next field default_output_layer_idc, where it is present.
 fn default_output_layer_idc_if(bits: &mut BitReader, present: bool) -> Result<Option<u8>, ExtFault>
-    ensures { Fills (λ v. v) means bits.old bits.new result (read (when present (u 2 ! 24 ∶ is 3)) bits.old.left) }
+    ensures { Fills (λ v. v) means bits.old bits.new result (read (when present (u 2 ! ReservedOutput ∶ is 3)) bits.old.left) }
 {
     if !present {
         return Ok(None);
@@ -304,7 +320,7 @@ fn default_output_layer_idc_if(bits: &mut BitReader, present: bool) -> Result<Op
     Ok(Some(idc))
 }
 
-/// The output layer sets, the layer sets being those from 1 on.
+/// The output layer sets, the layer sets being those from 1 on, and the layers of each from 0 on.
 #[tactic(auto, unfolding(crate::specs::OutputSets::output_sets))]
 pub(crate) fn output_sets_of(
     alloc: Global,
@@ -312,15 +328,16 @@ pub(crate) fn output_sets_of(
     infos: &[LayerInfo],
     sets: &[LayerSet],
     vps_num_profile_tier_level_minus1: u32,
-) -> Result<VpsOutputSets, ExtFault>
+) -> Result<(VpsOutputSets, Vec<OlsLayers>), ExtFault>
     requires ids { (k : ℕ) → length (get_or sets.now k []) ≤ 63 }
     requires profiles { vps_num_profile_tier_level_minus1 ≤ 63 }
-    ensures { Fills (λ v. v) means bits.old bits.new result (read (output_sets infos.now sets.now vps_num_profile_tier_level_minus1) bits.old.left) }
+    ensures reads { Fills (λ v. v.0) means bits.old bits.new result (read (output_sets infos.now sets.now vps_num_profile_tier_level_minus1) bits.old.left) }
+    ensures layers { IfOk result (λ v. v.1.items ≡ all_sets infos.now sets.now v.0) }
 {
     let several = sets.len() > 0;
     let num_add_olss = num_add_olss_of(bits, sets.len() + 1)?;
     let default_output_layer_idc = default_output_layer_idc_if(bits, several)?;
-    let output_layer_sets = output_layer_sets_of(
+    let (output_layer_sets, layers) = output_layer_sets_of(
         alloc,
         bits,
         infos,
@@ -329,28 +346,27 @@ pub(crate) fn output_sets_of(
         num_add_olss.unwrap_or(0),
         default_output_layer_idc.unwrap_or(0),
     )?;
-    Ok(VpsOutputSets {
+    let coded = VpsOutputSets {
         num_add_olss,
         default_output_layer_idc,
         output_layer_sets,
-    })
+    };
+    Ok((coded, layers))
 }
 
 #[tactic(auto, unfolding(crate::specs::OutputSets::profile_tier_level_idx))]
 fn put_profile_tier_level_idx(
     out: &mut BitWriter,
     field: Option<u8>,
-    infos: &[LayerInfo],
     vps_num_profile_tier_level_minus1: u32,
-    outputs: &[u8],
-    layers: &[u8],
+    set: &OlsLayers,
     j: usize,
 ) -> Result<(), AllocError>
     requires profiles { vps_num_profile_tier_level_minus1 ≤ 63 }
-    requires valid { Valid (profile_tier_level_idx infos.now vps_num_profile_tier_level_minus1 outputs.now layers.now j) field }
-    ensures { OnOk result (out.new ≡ put (profile_tier_level_idx infos.now vps_num_profile_tier_level_minus1 outputs.now layers.now j) field out.old) }
+    requires valid { Valid (profile_tier_level_idx vps_num_profile_tier_level_minus1 set.now j) field }
+    ensures { OnOk result (out.new ≡ put (profile_tier_level_idx vps_num_profile_tier_level_minus1 set.now j) field out.old) }
 {
-    let necessary = is_necessary(infos, outputs, layer_at(layers, j));
+    let necessary = is_necessary_at(set, j);
     let width = clog2(vps_num_profile_tier_level_minus1 + 1, 8);
     put_u8_if(
         out,
@@ -364,20 +380,37 @@ fn put_profile_tier_level_idx(
 fn put_profile_tier_level_idxs(
     out: &mut BitWriter,
     all: &[Option<u8>],
-    infos: &[LayerInfo],
     vps_num_profile_tier_level_minus1: u32,
-    outputs: &[u8],
-    layers: &[u8],
+    set: &OlsLayers,
 ) -> Result<(), AllocError>
     requires profiles { vps_num_profile_tier_level_minus1 ≤ 63 }
-    requires valid { Valid (profile_tier_level_idxs infos.now vps_num_profile_tier_level_minus1 outputs.now layers.now) all.now }
-    ensures { OnOk result (out.new ≡ put (profile_tier_level_idxs infos.now vps_num_profile_tier_level_minus1 outputs.now layers.now) all.now out.old) }
+    requires valid { Valid (profile_tier_level_idxs vps_num_profile_tier_level_minus1 set.now) all.now }
+    ensures { OnOk result (out.new ≡ put (profile_tier_level_idxs vps_num_profile_tier_level_minus1 set.now) all.now out.old) }
 {
     let profiles = vps_num_profile_tier_level_minus1;
     for j in 0..all.len() {
-        put_profile_tier_level_idx(out, all[j], infos, profiles, outputs, layers, j)?;
+        put_profile_tier_level_idx(out, all[j], profiles, set, j)?;
     }
     Ok(())
+}
+
+// profile_tier_level_idx of the layers of a set, and alt_output_layer_flag.
+#[tactic(auto, unfolding(crate::specs::OutputSets::set_profiles))]
+fn put_set_profiles(
+    out: &mut BitWriter,
+    idxs: &[Option<u8>],
+    alt_output_layer_flag: Option<u8>,
+    infos: &[LayerInfo],
+    vps_num_profile_tier_level_minus1: u32,
+    set: &OlsLayers,
+) -> Result<(), AllocError>
+    requires profiles { vps_num_profile_tier_level_minus1 ≤ 63 }
+    requires valid { Valid (set_profiles infos.now vps_num_profile_tier_level_minus1 set.now) (idxs.now, alt_output_layer_flag) }
+    ensures { OnOk result (out.new ≡ put (set_profiles infos.now vps_num_profile_tier_level_minus1 set.now) (idxs.now, alt_output_layer_flag) out.old) }
+{
+    let alternative = has_one_output(infos, set);
+    put_profile_tier_level_idxs(out, idxs, vps_num_profile_tier_level_minus1, set)?;
+    put_u8_if(out, alternative, 1, alt_output_layer_flag)
 }
 
 // Output layer set i, the layer sets being those from 1 on.
@@ -401,9 +434,8 @@ fn put_output_layer_set(
     let num_layer_sets = sets.len() + 1;
     let own = num_layer_sets > 2 && num_layer_sets <= i;
     let flagged = num_layer_sets <= i || idc == 2;
-    let layers = ols_layers_of(alloc, sets, i, v.layer_set_idx_for_ols_minus1)?;
-    let outputs = ols_outputs_of(alloc, &layers, &v.output_layer_flag, idc)?;
-    let alternative = one_output_refers(infos, &outputs);
+    let layers = ols_layers(alloc, sets, i, v.layer_set_idx_for_ols_minus1)?;
+    let outputs = ols_outputs(alloc, &layers, &v.output_layer_flag, idc)?;
     put_u8_if(
         out,
         own,
@@ -411,15 +443,15 @@ fn put_output_layer_set(
         v.layer_set_idx_for_ols_minus1,
     )?;
     put_output_layer_flags_if(out, flagged, &v.output_layer_flag, layers.len())?;
-    put_profile_tier_level_idxs(
+    let set = ols_of(alloc, infos, layers, outputs)?;
+    put_set_profiles(
         out,
         &v.profile_tier_level_idx,
+        v.alt_output_layer_flag,
         infos,
         vps_num_profile_tier_level_minus1,
-        &outputs,
-        &layers,
-    )?;
-    put_u8_if(out, alternative, 1, v.alt_output_layer_flag)
+        &set,
+    )
 }
 
 #[tactic(auto, using(mv_syntax::proofs::LoopLaws::put_item_steps), unfolding(crate::specs::OutputSets::output_layer_sets))]

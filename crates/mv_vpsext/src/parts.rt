@@ -1,6 +1,6 @@
 //! The parts of the extension, from the arguments and the parts before: each is read and written by a call of its own.
 
-ghost use Rattle.std.specs.Prelude.{◌≡◌, ℕ, ◌≤◌, [], get_or, IfOk, OnOk};
+ghost use Rattle.std.specs.Prelude.{◌≡◌, ℕ, ◌≤◌, [], get_or, length, IfOk, OnOk};
 ghost use Rattle.mv_syntax.specs.Table.{Valid, read, put};
 ghost use Rattle.mv_syntax.specs.Words.{◌otherwise◌};
 ghost use Rattle.mv_syntax.specs.Answers.{Fills};
@@ -12,6 +12,7 @@ ghost use Rattle.mv_vpsext.specs.Profiles.{profiles};
 ghost use Rattle.mv_vpsext.specs.OutputSets.{output_sets};
 ghost use Rattle.mv_vpsext.specs.Formats.{formats};
 ghost use Rattle.mv_vpsext.specs.DependencyTypes.{types};
+ghost use Rattle.mv_vpsext.specs.Sets.{all_sets};
 ghost use Rattle.mv_vpsext.specs.VpsExt.{ext_layers, dpb_sizes};
 
 use crate::args::VpsArgs;
@@ -21,15 +22,15 @@ use crate::dimensions::{VpsDimensions, dimensions_of};
 use crate::dpb_sizes::{DpbSizes, dpb_size_of, put_dpb_size};
 use crate::fault::ExtFault;
 use crate::formats::{VpsFormats, formats_of, put_formats};
-use crate::layer_infos::{LayerInfo, layer_infos_of};
+use crate::layers::layers_described;
 use crate::output_sets::{VpsOutputSets, output_sets_of, put_output_sets};
 use crate::profiles::{VpsProfiles, profiles_of};
-use crate::set_layers::set_layers_of;
+use crate::sets::{all_dpb_layers_of, all_sets_of};
 use mv_bits::{BitReader, BitWriter};
+use mv_layers::{LayerInfo, OlsLayers};
 use std::alloc::{AllocError, Global};
 
 /// What the first two parts say of each layer.
-#[tactic(auto, unfolding(crate::specs::VpsExt::ext_layers))]
 pub(crate) fn infos_of(
     alloc: Global,
     args: &VpsArgs,
@@ -39,13 +40,27 @@ pub(crate) fn infos_of(
     requires { AreVpsArgs args.now }
     ensures { IfOk result (λ v. v.items ≡ ext_layers args.now first.now second.now) }
 {
-    layer_infos_of(
+    layers_described(
         alloc,
         args.vps_max_layers_minus1,
         &first.layers,
         &first.view_id_val,
         &second.direct_dependency_flag,
     )
+}
+
+/// The layers of the output layer sets, from 0 on, from the values of the fourth part.
+#[tactic(auto, using(crate::proofs::Bounds::flags_within))]
+pub(crate) fn sets_of(
+    alloc: Global,
+    args: &VpsArgs,
+    infos: &[LayerInfo],
+    fourth: &VpsOutputSets,
+) -> Result<Vec<OlsLayers>, AllocError>
+    requires { AreVpsArgs args.now }
+    ensures { IfOk result (λ v. v.items ≡ all_sets infos.now args.now.layer_id_included_flag fourth.now) }
+{
+    all_sets_of(alloc, infos, args.layer_id_included_flag, fourth)
 }
 
 pub(crate) fn first_part_of(
@@ -69,16 +84,17 @@ pub(crate) fn second_part_of(
     bits: &mut BitReader,
     args: &VpsArgs,
     first: &VpsDimensions,
-) -> Result<VpsDependencies, ExtFault>
+) -> Result<(VpsDependencies, Vec<LayerInfo>), ExtFault>
     requires { AreVpsArgs args.now }
-    ensures { Fills (λ v. v) means bits.old bits.new result (read (dependencies args.now.vps_max_layers_minus1 first.now.layers args.now.layer_id_included_flag) bits.old.left) }
+    ensures reads { Fills (λ v. v.0) means bits.old bits.new result (read (dependencies args.now.vps_max_layers_minus1 first.now args.now.layer_id_included_flag) bits.old.left) }
+    ensures layers { IfOk result (λ v. v.1.items ≡ ext_layers args.now first.now v.0) }
 {
     dependencies_of(
         alloc,
         bits,
         args.vps_max_layers_minus1,
-        &first.layers,
-        &args.layer_id_included_flag,
+        first,
+        args.layer_id_included_flag,
     )
 }
 
@@ -100,16 +116,17 @@ pub(crate) fn fourth_part_of(
     args: &VpsArgs,
     infos: &[LayerInfo],
     third: &VpsProfiles,
-) -> Result<VpsOutputSets, ExtFault>
+) -> Result<(VpsOutputSets, Vec<OlsLayers>), ExtFault>
     requires args { AreVpsArgs args.now }
     requires profiles { third.now.vps_num_profile_tier_level_minus1 ≤ 63 }
-    ensures { Fills (λ v. v) means bits.old bits.new result (read (output_sets infos.now args.now.layer_id_included_flag third.now.vps_num_profile_tier_level_minus1) bits.old.left) }
+    ensures layers { IfOk result (λ v. v.1.items ≡ all_sets infos.now args.now.layer_id_included_flag v.0) }
+    ensures reads { Fills (λ v. v.0) means bits.old bits.new result (read (output_sets infos.now args.now.layer_id_included_flag third.now.vps_num_profile_tier_level_minus1) bits.old.left) }
 {
     output_sets_of(
         alloc,
         bits,
         infos,
-        &args.layer_id_included_flag,
+        args.layer_id_included_flag,
         third.vps_num_profile_tier_level_minus1,
     )
 }
@@ -131,28 +148,28 @@ pub(crate) fn fifth_part_of(
     )
 }
 
-#[tactic(auto, using(crate::proofs::Bounds::sets_within, crate::proofs::Bounds::flags_within), unfolding(crate::specs::VpsExt::dpb_sizes))]
+#[tactic(auto, unfolding(crate::specs::VpsExt::dpb_sizes, crate::specs::Sets::all_dpb_layers))]
 pub(crate) fn sixth_part_of(
     alloc: Global,
     bits: &mut BitReader,
     args: &VpsArgs,
     infos: &[LayerInfo],
     second: &VpsDependencies,
-    fourth: &VpsOutputSets,
+    sets: &[OlsLayers],
 ) -> Result<Vec<DpbSizes>, ExtFault>
     requires args { AreVpsArgs args.now }
+    requires some { 1 ≤ length sets.now }
     requires sub_layers { (k : ℕ) → get_or (second.now.sub_layers_vps_max_minus1 otherwise []) k 0 ≤ 6 }
-    ensures { Fills (λ v. v.items) means bits.old bits.new result (read (dpb_sizes args.now infos.now second.now fourth.now) bits.old.left) }
+    ensures { Fills (λ v. v.items) means bits.old bits.new result (read (dpb_sizes args.now infos.now second.now sets.now) bits.old.left) }
 {
-    let sets = set_layers_of(
+    let layers = all_dpb_layers_of(
         alloc,
         infos,
         args.vps_max_sub_layers_minus1,
         &second.sub_layers_vps_max_minus1,
-        &args.layer_id_included_flag,
-        fourth,
+        sets,
     )?;
-    dpb_size_of(alloc, bits, &sets)
+    dpb_size_of(alloc, bits, &layers)
 }
 
 pub(crate) fn seventh_part_of(
@@ -177,17 +194,20 @@ pub(crate) fn put_second_part(
     v: &VpsDependencies,
     args: &VpsArgs,
     first: &VpsDimensions,
+    infos: &[LayerInfo],
 ) -> Result<(), AllocError>
     requires args { AreVpsArgs args.now }
-    requires valid { Valid (dependencies args.now.vps_max_layers_minus1 first.now.layers args.now.layer_id_included_flag) v.now }
-    ensures { OnOk result (out.new ≡ put (dependencies args.now.vps_max_layers_minus1 first.now.layers args.now.layer_id_included_flag) v.now out.old) }
+    requires layers { infos.now ≡ ext_layers args.now first.now v.now }
+    requires valid { Valid (dependencies args.now.vps_max_layers_minus1 first.now args.now.layer_id_included_flag) v.now }
+    ensures { OnOk result (out.new ≡ put (dependencies args.now.vps_max_layers_minus1 first.now args.now.layer_id_included_flag) v.now out.old) }
 {
     put_dependencies(
         out,
         v,
         args.vps_max_layers_minus1,
-        &first.layers,
-        &args.layer_id_included_flag,
+        first,
+        infos,
+        args.layer_id_included_flag,
     )
 }
 
@@ -208,7 +228,7 @@ pub(crate) fn put_fourth_part(
         out,
         v,
         infos,
-        &args.layer_id_included_flag,
+        args.layer_id_included_flag,
         third.vps_num_profile_tier_level_minus1,
     )
 }
@@ -231,29 +251,30 @@ pub(crate) fn put_fifth_part(
     )
 }
 
-#[tactic(auto, using(crate::proofs::Bounds::sets_within, crate::proofs::Bounds::flags_within), unfolding(crate::specs::VpsExt::dpb_sizes))]
+#[tactic(auto, unfolding(crate::specs::VpsExt::dpb_sizes, crate::specs::Sets::all_dpb_layers))]
 pub(crate) fn put_sixth_part(
+    alloc: Global,
     out: &mut BitWriter,
     all: &[DpbSizes],
     args: &VpsArgs,
     infos: &[LayerInfo],
     second: &VpsDependencies,
-    fourth: &VpsOutputSets,
+    sets: &[OlsLayers],
 ) -> Result<(), AllocError>
     requires args { AreVpsArgs args.now }
+    requires some { 1 ≤ length sets.now }
     requires sub_layers { (k : ℕ) → get_or (second.now.sub_layers_vps_max_minus1 otherwise []) k 0 ≤ 6 }
-    requires valid { Valid (dpb_sizes args.now infos.now second.now fourth.now) all.now }
-    ensures { OnOk result (out.new ≡ put (dpb_sizes args.now infos.now second.now fourth.now) all.now out.old) }
+    requires valid { Valid (dpb_sizes args.now infos.now second.now sets.now) all.now }
+    ensures { OnOk result (out.new ≡ put (dpb_sizes args.now infos.now second.now sets.now) all.now out.old) }
 {
-    let sets = set_layers_of(
-        *fourth.output_layer_sets.allocator(),
+    let layers = all_dpb_layers_of(
+        alloc,
         infos,
         args.vps_max_sub_layers_minus1,
         &second.sub_layers_vps_max_minus1,
-        &args.layer_id_included_flag,
-        fourth,
+        sets,
     )?;
-    put_dpb_size(out, all, &sets)
+    put_dpb_size(out, all, &layers)
 }
 
 pub(crate) fn put_seventh_part(

@@ -9,8 +9,9 @@ use crate::fault::ExtFault;
 use crate::fields::ue_within;
 use crate::shared::{profile_tier_of, put_profile_tier};
 use mv_bits::{BitReader, BitWriter};
-use mv_common::{ProfileTier, put_u8, put_ue, u8_of};
-use mv_io::Rule;
+use mv_common::ProfileTier;
+use mv_fields::{put_u8, put_ue, u8_of};
+use mv_rules::Rule;
 use std::alloc::{AllocError, Global};
 use std::marker::Model;
 

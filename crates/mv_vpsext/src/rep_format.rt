@@ -4,12 +4,13 @@ ghost use Rattle.mv_syntax.specs.Words.{◌!◌∶◌};
 ghost use Rattle.mv_syntax.specs.Answers.{Fills};
 ghost use Rattle.mv_vpsext.specs.Faults.{means};
 ghost use Rattle.mv_vpsext.specs.Formats.{no_side, lacks_chroma, chroma_and_depth, conformance_window, rep_format};
+ghost use Rattle.mv_rules.specs.declared.rule.Rule.TheVariants.{VpsLimit};
 
 use crate::fault::ExtFault;
 use crate::fields::{u8_within, unset_flag_if};
 use mv_bits::{BitReader, BitWriter};
-use mv_common::{put_u8, put_u8_if, put_u16, put_ue, u8_of, u16_of};
-use mv_io::Rule;
+use mv_fields::{put_u8, put_u8_if, put_u16, put_ue, u8_of, u16_of};
+use mv_rules::Rule;
 use std::alloc::AllocError;
 
 /// The chroma format and the bit depths of a rep_format (F.7.3.2.1.2).
@@ -98,7 +99,7 @@ fn conformance_window_if(
 
 // The next field u(16), a width or height in luma samples.
 fn side_of(bits: &mut BitReader) -> Result<u16, ExtFault>
-    ensures { Fills (λ v. v) means bits.old bits.new result (read (u 16 ! 26 ∶ no_side) bits.old.left) }
+    ensures { Fills (λ v. v) means bits.old bits.new result (read (u 16 ! VpsLimit ∶ no_side) bits.old.left) }
 {
     let samples = u16_of(bits, 16)?;
     if samples == 0 || samples > 16_384 {
@@ -109,7 +110,7 @@ fn side_of(bits: &mut BitReader) -> Result<u16, ExtFault>
 
 // The flag of the format of index i that says whether the format has its own chroma format and bit depths.
 fn chroma_flag_of(bits: &mut BitReader, i: u32) -> Result<u8, ExtFault>
-    ensures { Fills (λ v. v) means bits.old bits.new result (read (u 1 ! 26 ∶ lacks_chroma i) bits.old.left) }
+    ensures { Fills (λ v. v) means bits.old bits.new result (read (u 1 ! VpsLimit ∶ lacks_chroma i) bits.old.left) }
 {
     let flag = u8_of(bits, 1)?;
     if i == 0 && flag != 1 {

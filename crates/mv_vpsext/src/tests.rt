@@ -6,6 +6,7 @@ ghost use Rattle.mv_vpsext.specs.VpsExt.{vps_extension};
 use super::*;
 use mv_bits::{BitReader, BitWriter};
 use mv_common::{Profile, ProfileTier};
+use mv_layers::{Derived, LayerSet, Ols};
 use std::alloc::{AllocError, Global};
 use std::test::Fail;
 
@@ -132,35 +133,51 @@ fn layer_set(alloc: Global, flags: &[u8]) -> Result<LayerSet, AllocError>
     })
 }
 
-// Two layers, which layer set 1 has.
-fn two_views(alloc: Global) -> Result<VpsArgs, AllocError>
-    ensures { IfOk result (λ a. AreVpsArgs a) }
+// Layer set 1 has both layers.
+fn two_view_sets(alloc: Global) -> Result<Vec<LayerSet>, AllocError>
+    ensures { IfOk result (λ v. v.items ≡ (1 ∷ 1 ∷ []) ∷ []) }
 {
     let mut sets = Vec::new(alloc);
     sets.push(layer_set(alloc, &[1, 1])?)?;
-    Ok(VpsArgs {
+    Ok(sets)
+}
+
+// Two layers.
+fn two_views(sets: &[LayerSet]) -> VpsArgs<'_>
+    requires { sets.now ≡ (1 ∷ 1 ∷ []) ∷ [] }
+    ensures { AreVpsArgs result }
+{
+    VpsArgs {
         vps_max_layers_minus1: 1,
         vps_max_sub_layers_minus1: 0,
         vps_max_layer_id: 1,
         vps_num_layer_sets_minus1: 1,
         layer_id_included_flag: sets,
-    })
+    }
 }
 
-// Layers 0, 2, 3 and 5, of which layer set 1 has the first two and layer set 2 has all.
-fn diamond(alloc: Global) -> Result<VpsArgs, AllocError>
-    ensures { IfOk result (λ a. AreVpsArgs a) }
+// Layer set 1 has layers 0 and 2, and layer set 2 has 0, 2, 3 and 5.
+fn diamond_sets(alloc: Global) -> Result<Vec<LayerSet>, AllocError>
+    ensures { IfOk result (λ v. v.items ≡ (1 ∷ 0 ∷ 1 ∷ 0 ∷ 0 ∷ 0 ∷ []) ∷ (1 ∷ 0 ∷ 1 ∷ 1 ∷ 0 ∷ 1 ∷ []) ∷ []) }
 {
     let mut sets = Vec::new(alloc);
     sets.push(layer_set(alloc, &[1, 0, 1, 0, 0, 0])?)?;
     sets.push(layer_set(alloc, &[1, 0, 1, 1, 0, 1])?)?;
-    Ok(VpsArgs {
+    Ok(sets)
+}
+
+// Four layers.
+fn diamond(sets: &[LayerSet]) -> VpsArgs<'_>
+    requires { sets.now ≡ (1 ∷ 0 ∷ 1 ∷ 0 ∷ 0 ∷ 0 ∷ []) ∷ (1 ∷ 0 ∷ 1 ∷ 1 ∷ 0 ∷ 1 ∷ []) ∷ [] }
+    ensures { AreVpsArgs result }
+{
+    VpsArgs {
         vps_max_layers_minus1: 3,
         vps_max_sub_layers_minus1: 1,
         vps_max_layer_id: 5,
         vps_num_layer_sets_minus1: 2,
         layer_id_included_flag: sets,
-    })
+    }
 }
 
 // The bits that a text of zeros and ones has.
@@ -193,27 +210,14 @@ fn written(alloc: Global, value: &VpsExt, args: &VpsArgs) -> Result<Vec<u8>, All
     Ok(out.into_bytes())
 }
 
-// What is read, what is derived of it, and what is written of it again.
+// What is read, what it describes, and what is written of it again.
 fn again(alloc: Global, bytes: &[u8], args: &VpsArgs) -> Result<(VpsExt, Derived, Vec<u8>), Fail>
     requires { AreVpsArgs args.now }
 {
     let mut bits = BitReader::new(bytes);
-    let value = VpsExt::read(alloc, &mut bits, args).ok().ok_or("it reads")?;
-    let derived = value.derive(alloc, args)?;
+    let (value, derived) = VpsExt::read(alloc, &mut bits, args).ok().ok_or("it reads")?;
     let bytes = written(alloc, &value, args)?;
     Ok((value, derived, bytes))
-}
-
-// A layer: its nuh_layer_id, view order index and view identifier, its direct reference layers, and it with all its reference
-// layers.
-type LayerRow = (u8, u8, u32, &'static [u8], &'static [u8]);
-
-fn is_layer(layer: &LayerInfo, row: &LayerRow) -> bool {
-    layer.layer == row.0
-        && layer.view_order == row.1
-        && layer.view_id == row.2
-        && layer.directs.as_slice() == row.3
-        && layer.closure.as_slice() == row.4
 }
 
 // An output layer set: its layers, outputs, necessary layers and reorder number.
@@ -226,19 +230,9 @@ fn is_set(set: &Ols, row: &SetRow) -> bool {
         && set.reorder == row.3
 }
 
-fn are_layers(layers: &[LayerInfo], rows: &[LayerRow]) -> bool {
-    layers.len() == rows.len()
-        && layers
-            .iter()
-            .zip(rows)
-            .all(|(layer, row)| is_layer(layer, row))
-}
-
 fn are_sets(sets: &[Ols], rows: &[SetRow]) -> bool {
     sets.len() == rows.len() && sets.iter().zip(rows).all(|(set, row)| is_set(set, row))
 }
-
-static TWO_LAYERS: &[LayerRow] = &[(0, 0, 0, &[], &[0]), (1, 1, 1, &[0], &[0, 1])];
 
 static TWO_SETS: &[SetRow] = &[
     (&[0], &[0], &[0], None),
@@ -406,21 +400,14 @@ fn are_two_views(value: &VpsExt) -> bool {
 
 #[test]
 fn two_views_come_back(rt: HostRuntime) -> Result<(), Fail> {
-    let args = two_views(rt.alloc())?;
+    let sets = two_view_sets(rt.alloc())?;
+    let args = two_views(&sets);
     let (value, derived, bytes) = again(rt.alloc(), TWO_VIEWS, &args)?;
     assert!(rt; are_two_views(&value));
-    assert!(rt; are_layers(&derived.layers, TWO_LAYERS));
     assert!(rt; are_sets(&derived.sets, TWO_SETS));
     assert_eq!(rt; bytes.as_slice(), TWO_VIEWS);
     Ok(())
 }
-
-static FOUR_LAYERS: &[LayerRow] = &[
-    (0, 0, 7, &[], &[0]),
-    (2, 2, 9, &[0], &[0, 2]),
-    (3, 1, 4, &[0], &[0, 3]),
-    (5, 3, 2, &[2, 3], &[0, 2, 3, 5]),
-];
 
 static FOUR_SETS: &[SetRow] = &[
     (&[0], &[0], &[0], None),
@@ -450,11 +437,11 @@ fn are_formats(formats: &VpsFormats) -> bool {
 
 #[test]
 fn a_diamond_comes_back(rt: HostRuntime) -> Result<(), Fail> {
-    let args = diamond(rt.alloc())?;
+    let sets = diamond_sets(rt.alloc())?;
+    let args = diamond(&sets);
     let wanted = bytes_of(rt.alloc(), DIAMOND)?;
     let (value, derived, bytes) = again(rt.alloc(), &wanted, &args)?;
     assert!(rt; are_formats(&value.formats));
-    assert!(rt; are_layers(&derived.layers, FOUR_LAYERS));
     assert!(rt; are_sets(&derived.sets, FOUR_SETS));
     assert_eq!(rt; bytes.as_slice(), wanted.as_slice());
     Ok(())

@@ -9,7 +9,7 @@ ghost use Rattle.mv_vpsext.specs.Derived.{derived};
 use crate::args::VpsArgs;
 use crate::dependencies::VpsDependencies;
 use crate::dependency_types::VpsDependencyTypes;
-use crate::derived::{Derived, all_ols};
+use crate::derived::all_ols;
 use crate::dimensions::{VpsDimensions, put_dimensions};
 use crate::dpb_sizes::DpbSizes;
 use crate::fault::ExtFault;
@@ -17,12 +17,13 @@ use crate::formats::VpsFormats;
 use crate::output_sets::VpsOutputSets;
 use crate::parts::{
     fifth_part_of, first_part_of, fourth_part_of, infos_of, put_fifth_part, put_fourth_part,
-    put_second_part, put_seventh_part, put_sixth_part, second_part_of, seventh_part_of,
+    put_second_part, put_seventh_part, put_sixth_part, second_part_of, sets_of, seventh_part_of,
     sixth_part_of, third_part_of,
 };
 use crate::profiles::{VpsProfiles, put_profiles};
-use mv_bits::{BitReader, BitWriter};
-use mv_io::{ReadFault, Rule};
+use mv_bits::{BitReader, BitWriter, NoBits};
+use mv_layers::Derived;
+use mv_rules::{ReadFault, Rule};
 use std::alloc::{AllocError, Global};
 use std::marker::Model;
 
@@ -67,19 +68,24 @@ fn refusal(fault: ExtFault) -> ReadFault
 }
 
 #[tactic(auto, unfolding(crate::specs::VpsExt::vps_extension), using(crate::proofs::Bounds::sub_layers_of_read, crate::proofs::Bounds::profiles_of_read))]
-fn vps_ext_of(alloc: Global, bits: &mut BitReader, args: &VpsArgs) -> Result<VpsExt, ExtFault>
+fn vps_ext_of(
+    alloc: Global,
+    bits: &mut BitReader,
+    args: &VpsArgs,
+) -> Result<(VpsExt, Derived), ExtFault>
     requires { AreVpsArgs args.now }
-    ensures { Fills (λ v. v) means bits.old bits.new result (read (vps_extension args.now) bits.old.left) }
+    ensures reads { Fills (λ v. v.0) means bits.old bits.new result (read (vps_extension args.now) bits.old.left) }
+    ensures derived { IfOk result (λ v. v.1 ≡ derived args.now v.0) }
 {
     let dimensions = first_part_of(alloc, bits, args)?;
-    let dependencies = second_part_of(alloc, bits, args, &dimensions)?;
+    let (dependencies, layers) = second_part_of(alloc, bits, args, &dimensions)?;
     let profiles = third_part_of(alloc, bits, args)?;
-    let infos = infos_of(alloc, args, &dimensions, &dependencies)?;
-    let output_sets = fourth_part_of(alloc, bits, args, &infos, &profiles)?;
+    let (output_sets, sets) = fourth_part_of(alloc, bits, args, &layers, &profiles)?;
     let formats = fifth_part_of(alloc, bits, args, &dependencies)?;
-    let dpb_size = sixth_part_of(alloc, bits, args, &infos, &dependencies, &output_sets)?;
+    let dpb_size = sixth_part_of(alloc, bits, args, &layers, &dependencies, &sets)?;
     let types = seventh_part_of(alloc, bits, args, &dependencies)?;
-    Ok(VpsExt {
+    let sets = all_ols(alloc, sets, &dpb_size)?;
+    let ext = VpsExt {
         dimensions,
         dependencies,
         profiles,
@@ -87,7 +93,8 @@ fn vps_ext_of(alloc: Global, bits: &mut BitReader, args: &VpsArgs) -> Result<Vps
         formats,
         dpb_size,
         types,
-    })
+    };
+    Ok((ext, Derived { layers, sets }))
 }
 
 #[tactic(auto, unfolding(crate::specs::VpsExt::vps_extension), using(crate::proofs::Bounds::sub_layers_of_valid, crate::proofs::Bounds::profiles_of_valid))]
@@ -98,25 +105,28 @@ fn put_vps_ext(out: &mut BitWriter, v: &VpsExt, args: &VpsArgs) -> Result<(), Al
 {
     let alloc = *v.dpb_size.allocator();
     let infos = infos_of(alloc, args, &v.dimensions, &v.dependencies)?;
+    let sets = sets_of(alloc, args, &infos, &v.output_sets)?;
     let sub_layers = args.vps_max_sub_layers_minus1;
     put_dimensions(out, &v.dimensions, args.vps_max_layers_minus1, sub_layers)?;
-    put_second_part(out, &v.dependencies, args, &v.dimensions)?;
+    put_second_part(out, &v.dependencies, args, &v.dimensions, &infos)?;
     put_profiles(out, &v.profiles, sub_layers)?;
     put_fourth_part(out, &v.output_sets, args, &infos, &v.profiles)?;
     put_fifth_part(out, &v.formats, args, &v.dependencies)?;
     put_sixth_part(
+        alloc,
         out,
         &v.dpb_size,
         args,
         &infos,
         &v.dependencies,
-        &v.output_sets,
+        &sets,
     )?;
     put_seventh_part(out, &v.types, args, &v.dependencies)
 }
 
 impl VpsExt {
-    /// Reads the extension of a video parameter set (F.7.3.2.1.1).
+    /// Reads the extension of a video parameter set (F.7.3.2.1.1), and gives with it the layers and the output layer sets that
+    /// the video parameter set describes (F.7.4.3.1.1).
     ///
     /// `Refused` with the first rule that a field breaks, all fields before it being read, and the least of those that one
     /// breaks: `Splitting`, `Depth`, `Spatial`, `Auxiliary`, `ReservedDimension`, `NoViewDimension`, `SameView`,
@@ -124,9 +134,14 @@ impl VpsExt {
     /// `DependencyType`, as each names it, and `VpsLimit` where a field is past its limit; with `VpsSyntax` where no rule is
     /// broken and the bits end before or in a field. `Memory` where memory runs out. After a fault the reader stands where it
     /// stood.
-    pub fn read(alloc: Global, bits: &mut BitReader, args: &VpsArgs) -> Result<VpsExt, ReadFault>
+    pub fn read(
+        alloc: Global,
+        bits: &mut BitReader,
+        args: &VpsArgs,
+    ) -> Result<(VpsExt, Derived), ReadFault>
         requires { AreVpsArgs args.now }
-        ensures { Answers (λ v. v) refusal_means (vps_extension args.now) bits.old bits.new result }
+        ensures answers { Answers (λ v. v.0) refusal_means (vps_extension args.now) bits.old bits.new result }
+        ensures derived { IfOk result (λ v. v.1 ≡ derived args.now v.0) }
     {
         let mut ahead = bits.fork();
         match vps_ext_of(alloc, &mut ahead, args) {
@@ -155,20 +170,14 @@ impl VpsExt {
     /// The layers and the output layer sets of the video parameter set (F.7.4.3.1.1).
     ///
     /// `AllocError` where memory runs out.
-    #[tactic(auto, using(crate::proofs::Bounds::sets_within, crate::proofs::Bounds::flags_within))]
     pub fn derive(&self, alloc: Global, args: &VpsArgs) -> Result<Derived, AllocError>
         requires args { AreVpsArgs args.now }
         requires valid { Valid (vps_extension args.now) self.now }
         ensures { IfOk result (λ d. d ≡ derived args.now self.now) }
     {
         let layers = infos_of(alloc, args, &self.dimensions, &self.dependencies)?;
-        let sets = all_ols(
-            alloc,
-            &layers,
-            &args.layer_id_included_flag,
-            &self.output_sets,
-            &self.dpb_size,
-        )?;
+        let sets = sets_of(alloc, args, &layers, &self.output_sets)?;
+        let sets = all_ols(alloc, sets, &self.dpb_size)?;
         Ok(Derived { layers, sets })
     }
 }

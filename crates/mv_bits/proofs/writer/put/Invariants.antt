@@ -1,6 +1,6 @@
 use Rattle.std.proofs.Common.{◌++◌, take}
 use Rattle.mv_syntax.specs.Bits.{u_bits}
-use Rattle.mv_bits.specs.Written.{written_bits}
+use Rattle.mv_bits.specs.inner.Written.{written_bits}
 use Rattle.mv_bits.proofs.Written.{Pending}
 use Rattle.mv_bits.proofs.writer.put.Given as goal
 

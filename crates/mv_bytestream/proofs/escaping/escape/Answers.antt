@@ -1,8 +1,8 @@
 use Rattle.std.proofs.Common.{◌≡◌, ℕ, ◌<◌, ◌++◌, List, [], ◌∷◌, length, ap, sym, ◌∙◌, arith}
-use Rattle.mv_defs.specs.Escapes.{escape as unit_of, escaped, head_first, head_second}
-use Rattle.mv_defs.specs.Rules.{has_emulation}
-use Rattle.mv_defs.specs.Units.{has_code}
-use Rattle.mv_defs.proofs.Escaped.{has_code-escaped, has_emulation-escaped, length-escaped}
+use Rattle.mv_units.specs.Escapes.{escape as unit_of, escaped, head_first, head_second}
+use Rattle.mv_units.specs.Rules.{has_emulation}
+use Rattle.mv_units.specs.Units.{has_code}
+use Rattle.mv_units.proofs.Escaped.{has_code-escaped, has_emulation-escaped, length-escaped}
 use Rattle.mv_bytestream.proofs.Prevented.{some-nonzero, escaped-fresh, run-last}
 use Rattle.mv_bytestream.proofs.escaping.escape.Goals as goal
 

@@ -1,5 +1,5 @@
 use Rattle.std.proofs.Common.{◌≡◌, ◌-◌, ◌≤◌, ◌++◌, drop, length}
-use Rattle.mv_defs.specs.Escapes.{escape as unit_of, escaped}
+use Rattle.mv_units.specs.Escapes.{escape as unit_of, escaped}
 use Rattle.mv_bytestream.proofs.escaping.escape.Given as goal
 
 abbrev pub invariant-loop-to : goal.invariant-loop-to

@@ -1,5 +1,5 @@
 use Rattle.std.proofs.Common.{arith, sym, ◌∙◌, ◌++◌, ◌≡◌, ap, subst, All, append-nil, map, List, drop}
-use Rattle.mv_defs.specs.Units.{units_at}
+use Rattle.mv_units.specs.Units.{units_at}
 use Rattle.mv_bytestream.specs.declared.splitting.Span.{Span}
 use Rattle.mv_bytestream.specs.Spans.{LiesIn, unit_at}
 use Rattle.mv_bytestream.proofs.Steps.{code-fits, units-push, inside-push, units-end}

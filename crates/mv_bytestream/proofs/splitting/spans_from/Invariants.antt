@@ -1,5 +1,5 @@
 use Rattle.std.proofs.Common.{◌≡◌, ◌-◌, ◌++◌, All, drop, length, map}
-use Rattle.mv_defs.specs.Units.{units_at}
+use Rattle.mv_units.specs.Units.{units_at}
 use Rattle.mv_bytestream.specs.Spans.{CodeOrEnd, LiesIn, unit_at}
 use Rattle.mv_bytestream.proofs.splitting.spans_from.Given as goal
 

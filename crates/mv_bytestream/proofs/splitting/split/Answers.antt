@@ -1,5 +1,5 @@
 use Rattle.std.proofs.Common.{◌≡◌, sym, ◌∙◌, subst, map, List, None, IfOk, Vec, Global}
-use Rattle.mv_defs.specs.Units.{NalUnit, leading}
+use Rattle.mv_units.specs.Units.{NalUnit, leading}
 use Rattle.mv_bytestream.specs.declared.splitting.Span.{Span}
 use Rattle.mv_bytestream.specs.Spans.{unit_at}
 use Rattle.mv_bytestream.proofs.Steps.{anyway, leading-front, refused-at, units-front}

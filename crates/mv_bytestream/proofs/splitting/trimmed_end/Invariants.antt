@@ -1,5 +1,5 @@
 use Rattle.std.proofs.Common.{◌≡◌, ◌-◌, ◌≤◌, slice_range}
-use Rattle.mv_defs.specs.Units.{trimmed}
+use Rattle.mv_units.specs.Units.{trimmed}
 use Rattle.mv_bytestream.proofs.splitting.trimmed_end.Given as goal
 
 abbrev pub invariant-loop-to : goal.invariant-loop-to

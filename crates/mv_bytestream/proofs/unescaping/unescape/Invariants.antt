@@ -1,5 +1,5 @@
 use Rattle.std.proofs.Common.{◌≡◌, ◌-◌, ◌≤◌, ◌++◌, drop, length}
-use Rattle.mv_defs.specs.Escapes.{payload}
+use Rattle.mv_units.specs.Escapes.{payload}
 use Rattle.mv_bytestream.proofs.unescaping.unescape.Given as goal
 
 abbrev pub invariant-loop-from : goal.invariant-loop-from

@@ -1,33 +1,21 @@
-use Rattle.mv_extract.specs.Call.{input_of, output_of}
-use Rattle.mv_extract.proofs.Endings.{no-memory}
-use Rattle.mv_extract.proofs.Settled.{settles, settles-memory}
+use Rattle.mv_extract.proofs.Ended.{by-rule, no-scanner, read-fails, refuses, too-long}
 use Rattle.mv_extract.proofs.heads.extract_heads.Goals as goal
 
-pub returns-clause-settles : goal.returns-clause-settles
-returns-clause-settles g c =
-    let source = c.args.source.now in
-    let now = c.extract_pieces.new.source in
-    let sink = c.args.sink.now in
-    let then = c.extract_pieces.new.sink in
-    settles c.args.limit (input_of (g.S.Source.told source) (g.S.Source.told now) (g.S.Source.faults source) (g.S.Source.faults now))
-    (output_of (g.K.Sink.taken sink) (g.K.Sink.taken then) (g.K.Sink.faults sink) (g.K.Sink.faults then)) c.extract_pieces.result c.extract_pieces.ensures.answers
-
 pub returns-in-Err-clause-answers : goal.returns-in-Err-clause-answers
-returns-in-Err-clause-answers g c = no-memory _ _ _ _ _ _ _
+returns-in-Err-clause-answers g c = no-scanner c.args.limit (g.S.Source.state c.args.source.now) (g.K.Sink.state c.args.sink.now)
 
-pub returns-in-Err-clause-settles : goal.returns-in-Err-clause-settles
-returns-in-Err-clause-settles g c =
-    let source = c.args.source.now in
-    let sink = c.args.sink.now in
-    settles-memory c.args.limit (input_of (g.S.Source.told source) (g.S.Source.told source) (g.S.Source.faults source) (g.S.Source.faults source))
-    (output_of (g.K.Sink.taken sink) (g.K.Sink.taken sink) (g.K.Sink.faults sink) (g.K.Sink.faults sink))
+pub returns-in-Err-Read-clause-answers : goal.returns-in-Err-Read-clause-answers
+returns-in-Err-Read-clause-answers g c =
+    read-fails g.K.Sink.state _ c.args.sink.now c.drive.new.out c.args.limit _ (rw c.in-Err-Read.field-0-is at c.in-Err-Read.ensures.driven)
 
-pub returns-in-Err-new-clause-answers : goal.returns-in-Err-new-clause-answers
-returns-in-Err-new-clause-answers g c = no-memory _ _ _ _ _ _ _
+pub returns-in-Err-TooLong-clause-answers : goal.returns-in-Err-TooLong-clause-answers
+returns-in-Err-TooLong-clause-answers g c =
+    too-long g.K.Sink.state _ c.args.sink.now c.drive.new.out c.args.limit _ (rw c.in-Err-TooLong.field-0-is at c.in-Err-TooLong.ensures.driven)
 
-pub returns-in-Err-new-clause-settles : goal.returns-in-Err-new-clause-settles
-returns-in-Err-new-clause-settles g c =
-    let source = c.args.source.now in
-    let sink = c.args.sink.now in
-    settles-memory c.args.limit (input_of (g.S.Source.told source) (g.S.Source.told source) (g.S.Source.faults source) (g.S.Source.faults source))
-    (output_of (g.K.Sink.taken sink) (g.K.Sink.taken sink) (g.K.Sink.faults sink) (g.K.Sink.faults sink))
+pub refusal-requires : goal.refusal-requires
+refusal-requires g c =
+    by-rule g.K.Sink.state _ c.args.sink.now c.drive.new.out c.args.limit _ c.in-Err-Stopped.stop (rw c.in-Err-Stopped.field-0-is at c.in-Err-Stopped.ensures.driven)
+
+pub returns-in-Err-Stopped-clause-answers : goal.returns-in-Err-Stopped-clause-answers
+returns-in-Err-Stopped-clause-answers g c =
+    refuses g.K.Sink.state _ c.args.sink.now c.drive.new.out c.args.limit _ c.in-Err-Stopped.stop c.refusal.result (rw c.in-Err-Stopped.field-0-is at c.in-Err-Stopped.ensures.driven) c.refusal.ensures

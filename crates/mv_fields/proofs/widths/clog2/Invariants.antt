@@ -1,10 +1,12 @@
 use Rattle.std.proofs.Common.{◌≡◌, ◌≤◌, ◌-◌}
-use Rattle.mv_fields.specs.Widths.{clog2_from, clog2}
+use Rattle.std.specs.Prelude.{nat_le, ◌^◌}
+use Rattle.mv_fields.specs.Widths.{clog2}
+use Rattle.mv_fields.specs.inner.Search.{first_from}
 use Rattle.mv_fields.proofs.widths.clog2.Given as goal
 
 abbrev pub invariant-double : goal.invariant-double
 invariant-double l = record {
-  first : clog2 l.x ≡ clog2_from (32 - l.k) l.k l.x;
+  first : clog2 l.x ≡ first_from (32 - l.k) l.k (λ j. nat_le l.x (2 ^ j));
   within : l.k ≤ l.most;
 }
 

@@ -1,6 +1,6 @@
 use Rattle.std.proofs.Common.{ap, ◌∙◌, sym, Ok}
 use Rattle.mv_fields.specs.Faults.{means}
-use Rattle.mv_fields.proofs.Payloads.{too_long, fields_fault, room_behind, ends, ends_fault}
+use Rattle.mv_fields.proofs.Payloads.{too_long, fields_fault, ends, ends_fault}
 use Rattle.mv_pps.specs.Pps.{pps}
 use Rattle.mv_pps.proofs.payload.payload_of.Goals as goal
 
@@ -9,11 +9,6 @@ returns-then-payload-gt-MAX_BYTES c = too_long pps c.args.payload.now c.if-paylo
 
 pub returns-in-Err : goal.returns-in-Err
 returns-in-Err c = fields_fault pps c.args.payload.now c.new-bits.result (means c.in-Err.fault) c.if-payload-gt-MAX_BYTES.false c.new-bits.ensures.all c.in-Err.ensures
-
-pub payload_end_of-requires : goal.payload_end_of-requires
-payload_end_of-requires c =
-    room_behind pps c.args.payload.now c.new-bits.result c.fields_of.new.bits c.in-Ok.value.0
-    c.new-bits.ensures.whole c.new-bits.ensures.all c.in-Ok.ensures.0 c.in-Ok.ensures.1
 
 pub returns-in-Ok-payload_end_of : goal.returns-in-Ok-payload_end_of
 returns-in-Ok-payload_end_of c =

@@ -1,10 +1,9 @@
-use Rattle.std.proofs.Common.{sym, subst}
+use Rattle.std.proofs.Common.{Err, sym, subst}
 use Rattle.mv_syntax.specs.Bits.{byte_bits}
 use Rattle.mv_syntax.specs.Payload.{ReadsPayload, CutPayload}
-use Rattle.mv_syntax.specs.Answers.{RefusesBy}
 use Rattle.mv_syntax.proofs.PayloadLaws.{reads-read_payload}
-use Rattle.mv_io.specs.declared.rule.Rule.TheVariants.{PpsSyntax}
-use Rattle.mv_fields.specs.Faults.{broken_rule}
+use Rattle.mv_rules.specs.declared.rule.Rule.TheVariants.{PpsSyntax}
+use Rattle.mv_fields.specs.Reading.{ReadsWhole}
 use Rattle.mv_fields.proofs.Payloads.{payload_refused}
 use Rattle.mv_pps.specs.Pps.{pps}
 use Rattle.mv_pps.proofs.payload.read_pps.Goals as goal
@@ -14,5 +13,5 @@ returns-in-Ok c = reads-read_payload pps (byte_bits c.args.payload.now) c.in-Ok.
 
 pub returns-in-Err : goal.returns-in-Err
 returns-in-Err c =
-    subst (λ e. RefusesBy (ReadsPayload pps (byte_bits c.args.payload.now)) (CutPayload pps (byte_bits c.args.payload.now)) 40 (broken_rule e)) (sym c.refusal.ensures)
+    subst (λ e. ReadsWhole (ReadsPayload pps (byte_bits c.args.payload.now)) (CutPayload pps (byte_bits c.args.payload.now)) PpsSyntax (Err e)) (sym c.refusal.ensures)
     (payload_refused pps (byte_bits c.args.payload.now) PpsSyntax c.in-Err.fault c.in-Err.ensures)

@@ -1,8 +1,8 @@
 use Rattle.std.proofs.Common.{◌≡◌, ◌+◌, ◌≤◌, false, length, sym, ap, ap₂, ◌∙◌, arith}
 use Rattle.std.specs.List.{filter}
 use Rattle.mv_syntax.specs.Words.{is_set, coded_set}
-use Rattle.mv_common.specs.ShortSetValue.{ShortSetValue}
-use Rattle.mv_common.specs.Deltas.{deltas, deltas_of_each}
+use Rattle.mv_short_sets.specs.ShortSetValue.{ShortSetValue}
+use Rattle.mv_short_sets.specs.Deltas.{deltas, deltas_of_each}
 use Rattle.mv_slice.specs.Derived.{num_short_used}
 use Rattle.mv_slice.proofs.Counting.{used-direct, used-few}
 use Rattle.mv_slice.proofs.derived.num_used_of_set.Goals as goal

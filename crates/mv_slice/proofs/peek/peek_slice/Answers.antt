@@ -2,7 +2,7 @@ use Rattle.std.proofs.Common.{refl, sym, ap, ◌∙◌, subst}
 use Rattle.mv_syntax.specs.Table.{read}
 use Rattle.mv_syntax.specs.Answers.{FailsAs}
 use Rattle.mv_syntax.proofs.TableLaws.{reads-of}
-use Rattle.mv_slice.specs.Faults.{means}
+use Rattle.mv_fields.specs.Faults.{means}
 use Rattle.mv_slice.specs.Opening.{opening}
 use Rattle.mv_slice.proofs.Peeking.{nothing_reads}
 use Rattle.mv_slice.proofs.peek.peek_slice.Goals as goal

@@ -1,8 +1,8 @@
 use Rattle.std.proofs.Common.{◌≡◌, ◌+◌, length, [], ◌∷◌, ◌++◌, arith, length-append, ap, subst, ◌∙◌}
 use Rattle.mv_syntax.specs.Table.{Valid}
-use Rattle.mv_common.specs.Deltas.{deltas_of_each}
-use Rattle.mv_common.specs.ShortSet.{st_ref_pic_set}
-use Rattle.mv_common.proofs.SetLaws.{sets_push}
+use Rattle.mv_short_sets.specs.Deltas.{deltas_of_each}
+use Rattle.mv_short_sets.specs.ShortSet.{st_ref_pic_set}
+use Rattle.mv_short_sets.proofs.SetLaws.{sets_push}
 use Rattle.mv_slice.proofs.tests.sets_of.Goals as goal
 
 -- a set that was read is one more valid set

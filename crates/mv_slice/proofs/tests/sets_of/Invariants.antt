@@ -1,5 +1,5 @@
 use Rattle.std.proofs.Common.{◌≡◌, length}
-use Rattle.mv_common.specs.ShortSet.{ValidSets}
+use Rattle.mv_short_sets.specs.ShortSet.{ValidSets}
 use Rattle.mv_slice.proofs.tests.sets_of.Given as goal
 
 abbrev pub invariant-loop-idx : goal.invariant-loop-idx

@@ -1,7 +1,7 @@
 use Rattle.std.proofs.Common.{ap, ◌∙◌, sym, Ok, option_map}
 use Rattle.mv_fields.specs.Faults.{means}
 use Rattle.mv_sps.specs.Sps.{sps_payload}
-use Rattle.mv_fields.proofs.Payloads.{too_long, fields_fault, room_behind, ends, ends_fault}
+use Rattle.mv_fields.proofs.Payloads.{too_long, fields_fault, ends, ends_fault}
 use Rattle.mv_sps.proofs.payload.payload_of.Goals as goal
 
 pub returns-then-payload-gt-MAX_BYTES : goal.returns-then-payload-gt-MAX_BYTES
@@ -11,12 +11,6 @@ returns-then-payload-gt-MAX_BYTES c = too_long (sps_payload c.args.layer c.args.
 pub returns-in-Err : goal.returns-in-Err
 unfolding sps_payload
 returns-in-Err c = fields_fault (sps_payload c.args.layer c.args.vps_sub_layers) c.args.payload.now c.new-bits.result (means c.in-Err.fault) c.if-payload-gt-MAX_BYTES.false c.new-bits.ensures.all c.in-Err.ensures
-
-pub payload_end_of-requires : goal.payload_end_of-requires
-unfolding sps_payload
-payload_end_of-requires c =
-    room_behind (sps_payload c.args.layer c.args.vps_sub_layers) c.args.payload.now c.new-bits.result c.fields_of.new.bits c.in-Ok.value.0
-    c.new-bits.ensures.whole c.new-bits.ensures.all c.in-Ok.ensures.0 c.in-Ok.ensures.1
 
 pub returns-in-Ok-payload_end_of : goal.returns-in-Ok-payload_end_of
 unfolding sps_payload

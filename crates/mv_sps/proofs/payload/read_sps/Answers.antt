@@ -1,10 +1,9 @@
-use Rattle.std.proofs.Common.{sym, subst}
+use Rattle.std.proofs.Common.{Err, sym, subst}
 use Rattle.mv_syntax.specs.Bits.{byte_bits}
 use Rattle.mv_syntax.specs.Payload.{ReadsPayload, CutPayload}
-use Rattle.mv_syntax.specs.Answers.{RefusesBy}
 use Rattle.mv_syntax.proofs.PayloadLaws.{reads-read_payload}
-use Rattle.mv_io.specs.declared.rule.Rule.TheVariants.{SpsSyntax}
-use Rattle.mv_fields.specs.Faults.{broken_rule}
+use Rattle.mv_rules.specs.declared.rule.Rule.TheVariants.{SpsSyntax}
+use Rattle.mv_fields.specs.Reading.{ReadsWhole}
 use Rattle.mv_fields.proofs.Payloads.{payload_refused}
 use Rattle.mv_sps.specs.Sps.{sps_payload}
 use Rattle.mv_sps.proofs.payload.read_sps.Goals as goal
@@ -14,5 +13,7 @@ returns-in-Ok c = reads-read_payload (sps_payload c.args.layer c.args.vps_sub_la
 
 pub returns-in-Err : goal.returns-in-Err
 returns-in-Err c =
-    subst (λ e. RefusesBy (ReadsPayload (sps_payload c.args.layer c.args.vps_sub_layers) (byte_bits c.args.payload.now)) (CutPayload (sps_payload c.args.layer c.args.vps_sub_layers) (byte_bits c.args.payload.now)) 30 (broken_rule e)) (sym c.refusal.ensures)
-    (payload_refused (sps_payload c.args.layer c.args.vps_sub_layers) (byte_bits c.args.payload.now) SpsSyntax c.in-Err.fault c.in-Err.ensures)
+    subst
+    (λ e.
+    ReadsWhole (ReadsPayload (sps_payload c.args.layer c.args.vps_sub_layers) (byte_bits c.args.payload.now)) (CutPayload (sps_payload c.args.layer c.args.vps_sub_layers) (byte_bits c.args.payload.now)) SpsSyntax (Err e))
+    (sym c.refusal.ensures) (payload_refused (sps_payload c.args.layer c.args.vps_sub_layers) (byte_bits c.args.payload.now) SpsSyntax c.in-Err.fault c.in-Err.ensures)

@@ -1,10 +1,10 @@
 use Rattle.std.proofs.Common.{◌≡◌}
 use Rattle.mv_syntax.specs.Table.{read}
-use Rattle.mv_syntax.specs.Loops.{rest_of_columns}
+use Rattle.mv_syntax.specs.Loops.{each, rest_of_columns}
 use Rattle.mv_sps.specs.References.{candidate, candidates}
 use Rattle.mv_sps.proofs.references.candidates_of.Given as goal
 
 abbrev pub invariant-loop-i : goal.invariant-loop-i
 invariant-loop-i l =
-    (read (candidates l.lsb_bits l.n) l.fn.bits.left ≡ rest_of_columns (candidate l.lsb_bits) l.i l.n l.lsbs.items l.used.items l.bits.left)
+    (read (candidates l.lsb_bits l.n) l.fn.bits.left ≡ rest_of_columns (each (candidate l.lsb_bits)) l.i l.n l.lsbs.items l.used.items l.bits.left)
     × (l.bits.total ≡ l.fn.bits.total)

@@ -1,5 +1,5 @@
 use Rattle.mv_vpsext.specs.Args.{layer_set, layer_sets}
-use Rattle.mv_common.proofs.Writing.{put_items_step, item_valid}
+use Rattle.mv_vps.proofs.Writing.{put_items_step, item_valid}
 use Rattle.mv_vps.proofs.layer_sets.put_layer_sets.Goals as goal
 
 pub put_layer_set-requires : goal.put_layer_set-requires

@@ -1,11 +1,10 @@
-use Rattle.std.proofs.Common.{◌≡◌, ◌*◌, ◌≤◌, length, sym, ap, Ok, ◌∙◌, subst, arith}
+use Rattle.std.proofs.Common.{length, sym, ap, Ok, ◌∙◌, subst, arith}
 use Rattle.mv_syntax.specs.Bits.{byte_bits}
 use Rattle.mv_syntax.specs.Cursor.{place}
 use Rattle.mv_syntax.specs.Table.{read}
-use Rattle.mv_syntax.specs.Payload.{read_end}
+use Rattle.mv_syntax.specs.inner.Ending.{read_end}
 use Rattle.mv_syntax.specs.Answers.{FailsAs}
 use Rattle.mv_syntax.proofs.BitLaws.{length-byte_bits}
-use Rattle.mv_syntax.proofs.PayloadLaws.{rest_shorter}
 use Rattle.mv_vps.specs.Faults.{means}
 use Rattle.mv_vps.specs.Vps.{vps, vps_fields, has_tail}
 use Rattle.mv_vps.proofs.Payloads.{fields_fail, parts_read, parts_fail}
@@ -23,18 +22,12 @@ returns-in-Err-clause-fills c =
     fields_fail vps (byte_bits c.args.payload.now) (means c.in-Err.fault) c.requires
     (subst (λ b. FailsAs (means c.in-Err.fault) (read vps_fields b)) c.new-bits.ensures.all c.in-Err.ensures.fills)
 
-pub payload_end_of-requires : goal.payload_end_of-requires
-payload_end_of-requires c =
-    let behind : length c.fields_of.new.bits.left ≤ length c.new-bits.result.left = rest_shorter vps_fields _ _ _ c.in-Ok.ensures.fills.0 in
-    let whole : length c.new-bits.result.left ≡ 8 * length c.args.payload.now = ap length c.new-bits.ensures.all ∙ length-byte_bits c.args.payload.now in
-    omega (arith, c.in-Ok.ensures.fills.1, c.new-bits.ensures.whole)
-
 pub returns-in-Ok-payload_end_of-clause-fills : goal.returns-in-Ok-payload_end_of-clause-fills
 returns-in-Ok-payload_end_of-clause-fills c =
     parts_read vps (byte_bits c.args.payload.now) c.new-bits.result c.fields_of.new.bits _ c.has_tail-tailed.result _
     c.requires c.new-bits.ensures.all (c.new-bits.ensures.whole ∙ sym (length-byte_bits c.args.payload.now))
     (c.in-Ok.ensures.fills.0 ∙ ap (λ v. Ok (v.coded.0, c.fields_of.new.bits.left)) (sym c.value.view_is)) c.in-Ok.ensures.fills.1
-    (c.has_tail-tailed.ensures ∙ ap (λ v. has_tail v.coded.0) (sym c.value.view_is)) c.in-Ok-payload_end_of.ensures
+    (c.has_tail-tailed.ensures ∙ ap (λ v. has_tail v.coded.0) (sym c.value.view_is)) c.in-Ok-payload_end_of.ensures.fills
 
 pub returns-in-Err-payload_end_of-clause-fills : goal.returns-in-Err-payload_end_of-clause-fills
 returns-in-Err-payload_end_of-clause-fills c =
@@ -43,4 +36,4 @@ returns-in-Err-payload_end_of-clause-fills c =
     (c.in-Ok.ensures.fills.0 ∙ ap (λ v. Ok (v.coded.0, c.fields_of.new.bits.left)) (sym c.value.view_is)) c.in-Ok.ensures.fills.1
     (c.has_tail-tailed.ensures ∙ ap (λ v. has_tail v.coded.0) (sym c.value.view_is))
     (subst (λ fault. FailsAs (means fault) (read_end c.has_tail-tailed.result (place c.fields_of.new.bits) c.fields_of.new.bits.left)) (sym c.from.ensures)
-    (end_fault c.has_tail-tailed.result _ _ c.in-Err-payload_end_of.fault c.in-Err-payload_end_of.ensures))
+    (end_fault c.has_tail-tailed.result _ _ c.in-Err-payload_end_of.fault c.in-Err-payload_end_of.ensures.fills))

@@ -1,7 +1,7 @@
 use Rattle.std.proofs.Common.{◌≡◌, map}
-use Rattle.std.specs.List.{range_with_len}
-use Rattle.mv_vpsext.specs.Derived.{ols_at}
+use Rattle.std.specs.List.{enumerate_from}
+use Rattle.mv_vpsext.specs.Derived.{numbered_ols}
 use Rattle.mv_vpsext.proofs.derived.all_ols.Given as goal
 
-abbrev pub invariant-loop-i : goal.invariant-loop-i
-invariant-loop-i l = l.all.items ≡ map (ols_at l.infos l.sets l.coded l.sizes) (range_with_len 0 l.i)
+abbrev pub invariant-loop-set : goal.invariant-loop-set
+invariant-loop-set l = l.all.items ≡ map (numbered_ols l.sizes) (enumerate_from 0 l.yielded)

@@ -6,5 +6,5 @@ use Rattle.mv_vpsext.proofs.dpb_sizes.dpb_size_of.Given as goal
 
 abbrev pub invariant-loop-i : goal.invariant-loop-i
 invariant-loop-i l =
-    (read (dpb_size (length l.sets - 1) l.sets) l.fn.bits.left ≡ rest_of_items (dpb_of_set l.sets) l.i l.end l.all.items l.bits.left)
+    (read (dpb_size l.sets) l.fn.bits.left ≡ rest_of_items (dpb_of_set l.sets) l.i l.end l.all.items l.bits.left)
     × (l.bits.total ≡ l.fn.bits.total)

@@ -6,6 +6,6 @@ use Rattle.mv_vpsext.proofs.output_sets.profile_tier_level_idxs_of.Given as goal
 
 abbrev pub invariant-loop-j : goal.invariant-loop-j
 invariant-loop-j l =
-    (read (profile_tier_level_idxs l.infos l.profiles l.outputs l.layers) l.fn.bits.left
-    ≡ rest_of_items (profile_tier_level_idx l.infos l.profiles l.outputs l.layers) l.j l.end l.all.items l.bits.left)
+    (read (profile_tier_level_idxs l.profiles l.set) l.fn.bits.left
+    ≡ rest_of_items (profile_tier_level_idx l.profiles l.set) l.j l.end l.all.items l.bits.left)
     × (l.bits.total ≡ l.fn.bits.total)

@@ -5,5 +5,4 @@ use Rattle.mv_vpsext.specs.OutputSets.{profile_tier_level_idx}
 use Rattle.mv_vpsext.proofs.output_sets.put_profile_tier_level_idxs.Given as goal
 
 abbrev pub invariant-loop-j : goal.invariant-loop-j
-invariant-loop-j l =
-    l.out ≡ put (items 0 (length l.layers) (profile_tier_level_idx l.infos l.profiles l.outputs l.layers)) (take l.j l.all) l.fn.out
+invariant-loop-j l = l.out ≡ put (items 0 (length l.set.layers) (profile_tier_level_idx l.profiles l.set)) (take l.j l.all) l.fn.out

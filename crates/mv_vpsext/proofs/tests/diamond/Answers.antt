@@ -1,4 +1,4 @@
-use Rattle.std.proofs.Common.{◌≡◌, ◌++◌, [], ◌∷◌, List, ℕ, refl, sym, ap₂, ◌∙◌, subst, lit<, lit≤}
+use Rattle.std.proofs.Common.{◌≡◌, [], ◌∷◌, List, ℕ, refl, sym, subst, lit<, lit≤}
 use Rattle.mv_syntax.specs.Loops.{items}
 use Rattle.mv_vpsext.specs.Args.{VpsArgsValue, AreVpsArgs, included_flag, layer_set, layer_sets}
 use Rattle.mv_vpsext.proofs.tests.diamond.Goals as goal
@@ -30,7 +30,4 @@ are_args = record {
 
 pub returns : goal.returns
 unfolding some all args
-returns c =
-    let first : c.push.new.self.items ≡ some ∷ [] = c.in_ok-push.ensures.items ∙ ap₂ (λ before last. before ++ last ∷ []) c.new-sets.ensures.items c.in_ok-layer_set.ensures in
-    let both : c.push-2.new.self.items ≡ some ∷ all ∷ [] = c.in_ok-push-2.ensures.items ∙ ap₂ (λ before last. before ++ last ∷ []) first c.in_ok-layer_set-2.ensures in
-    subst (λ sets. AreVpsArgs (args sets)) (sym both) are_args
+returns c = subst (λ sets. AreVpsArgs (args sets)) (sym c.requires) are_args

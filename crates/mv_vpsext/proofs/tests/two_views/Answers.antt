@@ -1,4 +1,4 @@
-use Rattle.std.proofs.Common.{◌≡◌, ◌++◌, [], ◌∷◌, List, ℕ, refl, sym, ap₂, ◌∙◌, subst, lit<, lit≤}
+use Rattle.std.proofs.Common.{◌≡◌, [], ◌∷◌, List, ℕ, refl, sym, subst, lit<, lit≤}
 use Rattle.mv_syntax.specs.Loops.{items}
 use Rattle.mv_vpsext.specs.Args.{VpsArgsValue, AreVpsArgs, included_flag, layer_set, layer_sets}
 use Rattle.mv_vpsext.proofs.tests.two_views.Goals as goal
@@ -18,6 +18,4 @@ are_args = record {
 
 pub returns : goal.returns
 unfolding args
-returns c =
-    let e : c.push.new.self.items ≡ (1 ∷ 1 ∷ []) ∷ [] = c.in_ok-push.ensures.items ∙ ap₂ (λ before last. before ++ last ∷ []) c.new-sets.ensures.items c.in_ok-layer_set.ensures in
-    subst (λ sets. AreVpsArgs (args sets)) (sym e) are_args
+returns c = subst (λ sets. AreVpsArgs (args sets)) (sym c.requires) are_args

@@ -1,6 +1,6 @@
 use Rattle.std.proofs.Common.{refl}
 use Rattle.mv_syntax.specs.Bits.{u_bits}
-use Rattle.mv_bits.specs.Cursor.{window_bits}
+use Rattle.mv_bits.specs.inner.Window.{window_bits}
 use Rattle.mv_bits.proofs.reader.BitReader.new.Goals as goal
 
 pub returns-clause-all : goal.returns-clause-all

@@ -1,22 +1,20 @@
-use Rattle.std.proofs.Common.{rules, w32, SFits, to_z-of_z}
-use Rattle.mv_syntax.proofs.BitLaws.{se_value-range}
-use Rattle.mv_bits.proofs.Readings.{Takes-refused, Takes_se-from_ue, Takes_se-short}
+use Rattle.std.proofs.Common.{◌<ℤ◌, ◌^◌, ◌-◌, negsuc}
+use Rattle.mv_syntax.specs.Bits.{se_bits, HasNoUe, take_se}
+use Rattle.mv_syntax.proofs.BitLaws.{take_se-printed, take_se-failed, take_se-short, se_code-above}
+use Rattle.mv_bits.proofs.Readings.{Takes-printed, Takes-in_range, Takes-missing}
 use Rattle.mv_bits.proofs.reader.BitReader.se.Goals as goal
 
-pub returns-in_err-code-clause-takes : goal.returns-in_err-code-clause-takes
-returns-in_err-code-clause-takes c =
-    let same = c.in_err-code.ensures.takes.1 in
-    let refused = Takes-refused c.args.self.now c.from_residual.result _ c.from_residual.ensures.0 (Takes_se-short c.args.self.now.left c.in_err-code.ensures.takes.0) in
-    rw same refused
-
-pub returns-clause-takes : goal.returns-clause-takes
-returns-clause-takes c =
-    let fits : SFits w32 c.signed.result = search rules in (
-      rw (to_z-of_z fits, c.signed.ensures) (Takes_se-from_ue c.args.self.now.left c.ue.new.self.left c.in_ok-code.code c.in_ok-code.ensures.takes.0),
-      c.in_ok-code.ensures.takes.1,
-    )
+pub returns-clause-printed : goal.returns-clause-printed
+returns-clause-printed c =
+    let b = c.args.self.now.left in
+    Takes-printed se_bits c.args.self.now c.next_se.new.self c.next_se.result (take_se b) (λ v rest e. (take_se-printed b v rest e).0) c.next_se.ensures
 
 pub returns-clause-in_range : goal.returns-clause-in_range
 returns-clause-in_range c =
-    let fits : SFits w32 c.signed.result = search rules in
-    rw (to_z-of_z fits, c.signed.ensures) (se_value-range c.in_ok-code.code c.in_ok-code.ensures.in_range).0
+    let b = c.args.self.now.left in
+    Takes-in_range (λ v. negsuc (2 ^ 31 - 1) <ℤ v) c.args.self.now c.next_se.new.self c.next_se.result (take_se b) (λ v rest e. se_code-above v (take_se-printed b v rest e).1) c.next_se.ensures
+
+pub returns-clause-missing : goal.returns-clause-missing
+returns-clause-missing c =
+    let b = c.args.self.now.left in
+    Takes-missing (HasNoUe b) c.args.self.now c.next_se.new.self c.next_se.result (take_se b) (λ e. (take_se-failed b _ e).1) (take_se-short b) c.next_se.ensures

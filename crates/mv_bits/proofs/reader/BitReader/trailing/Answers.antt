@@ -1,7 +1,6 @@
-use Rattle.std.proofs.Common.{◌≡◌, length, ap, ◌∙◌, arith, sym, refl, false, ◌==◌, eqb-true, eq-eqb, true≢false}
-use Rattle.mv_bits.specs.Cursor.{Cursor, place}
+use Rattle.std.proofs.Common.{◌≡◌, length, ◌∙◌, arith, sym, false, ◌==◌, eqb-true, eq-eqb, true≢false}
+use Rattle.mv_bits.specs.Cursor.{place}
 use Rattle.mv_bits.proofs.Endings.{trailing_bits-some, trailing_bits-found, trailing_bits-shape}
-use Rattle.mv_bits.proofs.Windows.{Holds-from, Holds-whole, window_bits-none, same_cursor}
 use Rattle.mv_bits.proofs.reader.BitReader.trailing.Goals as goal
 use Rattle.mv_bits.proofs.reader.BitReader.trailing.Goals.{then-count-gt8-via-then-count-gt8, then-count-gt8-via-else-count-gt8+then-word-count, then-count-gt8-via-else-count-gt8+else-word-count+then-not-is_empty}
 
@@ -20,11 +19,4 @@ returns-then-count-gt8-clause-other c e =
 pub returns-clause-found : goal.returns-clause-found
 returns-clause-found c =
     let none = eqb-true (length c.in-Some.rest.now) 0 (sym c.is_empty.ensures ∙ c.if-not-is_empty.false) in
-    trailing_bits-found c.args.self.now c.self.inside.whole c.in-Some.word c.in-Some.count c.in-Some.rest c.in-Some.ensures
-    (Holds-whole (Holds-from _ _ _ _ c.args.self.now c.self.view_is c.self.invariant))
-    c.if-count-gt8.false c.if-word-count.false none
-
-pub returns-clause-taken : goal.returns-clause-taken
-returns-clause-taken c =
-    let none = eqb-true (length c.in-Some.rest.now) 0 (sym c.is_empty.ensures ∙ c.if-not-is_empty.false) in
-    same_cursor (ap (λ (r : Cursor). r.total) c.self.view_is) (window_bits-none 0 0 c.in-Some.rest.now refl none)
+    trailing_bits-found c.args.self.now c.in-Some.word c.in-Some.count c.in-Some.rest c.in-Some.ensures c.if-count-gt8.false c.if-word-count.false none

@@ -25,7 +25,7 @@ invariant_of-self c =
     let inside : c.ilog2-behind.result < c.self.inside.count
     = exponent_lt c.ilog2-behind.result c.self.inside.count c.self.inside.word c.ilog2-behind.ensures.power_le c.self.invariant.1
     in
-    (code.narrow, code.low, omega (arith, c.self.invariant.2))
+    (code.narrow, code.low, omega (arith, c.self.invariant.2), c.self.invariant.3)
 
 pub returns : goal.returns
 returns c = (

@@ -1,5 +1,5 @@
 use Rattle.std.proofs.Common.{◌≡◌, ◌≤◌, ◌<◌, ◌∙◌, length, get_or, refl, ap, rules}
-use Rattle.mv_bits.specs.Written.{written_bits}
+use Rattle.mv_bits.specs.inner.Written.{written_bits}
 use Rattle.mv_bits.proofs.Written.{Extends-started, Extends-byte, Extends-ended}
 use Rattle.mv_bits.proofs.writer.BitWriter.append.Goals as goal
 

@@ -1,6 +1,6 @@
 use Rattle.std.proofs.Common.{◌≡◌, ◌++◌, take}
 use Rattle.mv_syntax.specs.Bits.{byte_bits}
-use Rattle.mv_bits.specs.Written.{Extends}
+use Rattle.mv_bits.specs.inner.Written.{Extends}
 use Rattle.mv_bits.proofs.writer.BitWriter.append.Given as goal
 
 abbrev pub invariant-loop-byte : goal.invariant-loop-byte

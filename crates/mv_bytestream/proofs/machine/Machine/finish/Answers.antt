@@ -3,7 +3,7 @@ use Rattle.mv_bytestream.specs.Stages.{IsHeld, in_hand}
 use Rattle.mv_bytestream.specs.declared.machine.Machine.{Machine}
 use Rattle.mv_bytestream.specs.declared.machine.Stage.{Stage}
 use Rattle.mv_bytestream.specs.declared.machine.Stage.TheVariants.{Making, Last, Ended}
-use Rattle.mv_bytestream.proofs.Numbers.{end-number}
+use Rattle.mv_units.proofs.Numbers.{end-number}
 use Rattle.mv_bytestream.proofs.Piece.{quiet-so_far}
 use Rattle.mv_bytestream.proofs.Takes.{is_making, ends-none, ends-short, ends-last, few-short, many-long}
 use Rattle.mv_bytestream.proofs.machine.Machine.finish.Goals as goal

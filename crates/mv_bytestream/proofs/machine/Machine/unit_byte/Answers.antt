@@ -1,5 +1,5 @@
 use Rattle.std.proofs.Common.{None, Some, ◌+◌, ◌≤◌, length, sym, ap, ◌∙◌, arith}
-use Rattle.mv_defs.specs.Rules.{longest_unit}
+use Rattle.mv_units.specs.Rules.{longest_unit}
 use Rattle.mv_bytestream.specs.Stages.{unit_held}
 use Rattle.mv_bytestream.specs.declared.machine.Stage.TheVariants.{Making}
 use Rattle.mv_bytestream.proofs.Runs.{running}

@@ -1,7 +1,7 @@
 use Rattle.std.proofs.Common.{◌≡◌, ◌≤◌, ◌+◌, ◌-◌, false, ℕ, List, length, take, refl, subst, arith}
 use Rattle.std.proofs.lemmas.List.{length-take, length-take-le}
-use Rattle.mv_defs.specs.Units.{has_code, trimmed}
-use Rattle.mv_defs.specs.Rules.{has_emulation, longest_unit}
+use Rattle.mv_units.specs.Units.{has_code, trimmed}
+use Rattle.mv_units.specs.Rules.{has_emulation, longest_unit}
 use Rattle.mv_bytestream.proofs.Ends.{ok-items}
 use Rattle.mv_bytestream.proofs.Takes.{run-takes, run-view, take-within, three-off}
 use Rattle.mv_bytestream.proofs.machine.Machine.unit_run.Goals as goal

@@ -1,0 +1,4 @@
+-- What only proofs need.
+pub mod Tail
+pub mod Window
+pub mod Written

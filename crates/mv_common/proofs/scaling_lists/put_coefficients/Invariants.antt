@@ -1,9 +1,0 @@
-use Rattle.std.proofs.Common.{◌≡◌, take}
-use Rattle.std.specs.Prelude.{if◌then◌else◌}
-use Rattle.mv_syntax.specs.Table.{put}
-use Rattle.mv_syntax.specs.Loops.{items}
-use Rattle.mv_common.specs.ScalingLists.{num_coefficients, coefficient}
-use Rattle.mv_common.proofs.scaling_lists.put_coefficients.Given as goal
-
-abbrev pub invariant-loop-k : goal.invariant-loop-k
-invariant-loop-k l = l.out ≡ put (items 0 (if l.coded then num_coefficients l.s else 0) coefficient) (take l.k l.list) l.fn.out

@@ -1,9 +1,0 @@
-use Rattle.mv_syntax.proofs.TableLaws.{round_trips}
-use Rattle.mv_common.specs.Deltas.{deltas_of_each}
-use Rattle.mv_common.specs.ShortSet.{set_fields}
-use Rattle.mv_common.proofs.short_set.short_set_of.Goals as goal
-
--- what was read is valid
-pub deltas_of-requires-clause-valid : goal.deltas_of-requires-clause-valid
-deltas_of-requires-clause-valid c =
-    ((round_trips (set_fields c.args.args.now.idx c.args.args.now.num (deltas_of_each c.args.args.now.earlier.now))).read_writes _ _ _ c.in_ok-set.ensures.0).0

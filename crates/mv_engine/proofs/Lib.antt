@@ -1,0 +1,5 @@
+pub mod Endings
+pub mod Fed
+pub mod Handed
+pub mod Settled
+pub mod Written

@@ -1,0 +1,19 @@
+use Rattle.std.proofs.Common.{◌≡◌, ◌+◌, length, arith}
+use Rattle.mv_syntax.specs.Table.{u}
+use Rattle.mv_syntax.specs.Loops.{each}
+use Rattle.mv_syntax.proofs.LoopLaws.{items-length, items-valid}
+use Rattle.mv_syntax.proofs.PrintingLoops.{print_items_step}
+use Rattle.mv_fields.proofs.printer.Printer.u32s.Goals as goal
+
+pub u32-requires-clause-fits : goal.u32-requires-clause-fits
+unfolding each
+u32-requires-clause-fits c =
+    let count : length c.args.fields.now ≡ c.args.n = items-length (each (u c.args.width)) c.args.first c.args.n c.args.fields.now c.requires.fits in
+    items-valid (each (u c.args.width)) c.args.first c.args.n c.args.fields.now c.loop-i.i (c.args.first + c.loop-i.i) 0 c.requires.fits (omega arith) (omega arith)
+
+pub loop-i-preserved : goal.loop-i-preserved
+unfolding each
+loop-i-preserved c =
+    let count : length c.args.fields.now ≡ c.args.n = items-length (each (u c.args.width)) c.args.first c.args.n c.args.fields.now c.requires.fits in
+    print_items_step (each (u c.args.width)) c.args.first _ _ _ c.loop-i.i (c.from.result + c.from-in-loop-i.result) 0 _ c.loop-i.invariant (omega arith) (omega arith) c.in_ok-outer.ensures
+    c.in_ok-u32.ensures c.close.ensures

@@ -1,0 +1,7 @@
+use Rattle.std.proofs.Common.{◌≡◌, take}
+use Rattle.mv_syntax.specs.Loops.{ues}
+use Rattle.mv_syntax.specs.Printed.{printed_in}
+use Rattle.mv_fields.proofs.printer.Printer.ues.Given as goal
+
+abbrev pub invariant-loop-i : goal.invariant-loop-i
+invariant-loop-i l = l.self ≡ printed_in (ues l.first l.n) l.name (take l.i l.fields) l.fn.self

@@ -1,0 +1,4 @@
+pub mod Extracts
+pub mod Judged
+pub mod Seen
+pub mod Streams

@@ -1,0 +1,10 @@
+pub mod Ranges
+pub mod AnyLaws
+pub mod Collecting
+pub mod ClosureLaws
+pub mod ReachLaws
+pub mod MarkLaws
+pub mod Members
+pub mod Rising
+pub mod LayerLaws
+pub mod SetLaws

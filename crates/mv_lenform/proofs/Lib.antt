@@ -1,0 +1,7 @@
+pub mod Bodies
+pub mod Carried
+pub mod Feeding
+pub mod Lengths
+pub mod Pieces
+pub mod Stands
+pub mod Zeros

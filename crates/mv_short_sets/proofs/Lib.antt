@@ -1,0 +1,4 @@
+pub mod DeltaLaws
+pub mod DeltaSteps
+pub mod SetLaws
+pub mod SetSizes

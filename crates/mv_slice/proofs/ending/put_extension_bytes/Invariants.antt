@@ -1,8 +1,0 @@
-use Rattle.std.proofs.Common.{◌≡◌, take}
-use Rattle.mv_syntax.specs.Table.{put}
-use Rattle.mv_syntax.specs.Loops.{items}
-use Rattle.mv_slice.specs.Ending.{extension_byte}
-use Rattle.mv_slice.proofs.ending.put_extension_bytes.Given as goal
-
-abbrev pub invariant-loop-i : goal.invariant-loop-i
-invariant-loop-i l = l.out ≡ put (items 0 l.n extension_byte) (take l.i l.all) l.fn.out

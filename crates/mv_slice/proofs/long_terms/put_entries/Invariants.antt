@@ -1,8 +1,0 @@
-use Rattle.std.proofs.Common.{◌≡◌, take}
-use Rattle.mv_syntax.specs.Table.{put}
-use Rattle.mv_syntax.specs.Loops.{items}
-use Rattle.mv_slice.specs.LongTerms.{long_term}
-use Rattle.mv_slice.proofs.long_terms.put_entries.Given as goal
-
-abbrev pub invariant-loop-i : goal.invariant-loop-i
-invariant-loop-i l = l.out ≡ put (items 0 l.n (long_term l.ctx l.num_long_term_sps)) (take l.i l.all) l.fn.out

@@ -1,0 +1,15 @@
+pub mod Behind
+pub mod Early
+pub mod Escaped
+pub mod Framed
+pub mod Longer
+pub mod Numbers
+pub mod Parts
+pub mod Pieces
+pub mod Refusals
+pub mod Shown
+pub mod Shows
+pub mod Silent
+pub mod Starts
+pub mod Trimmed
+pub mod Unescaped
