@@ -12,7 +12,6 @@ mod limits_printed;
 mod loops;
 mod loops_printed;
 mod printer;
-mod put;
 mod shown;
 mod widths;
 
@@ -28,5 +27,4 @@ pub use limits::{
 };
 pub use loops::{u8s_if, u8s_of, u32s_of, ues_if, ues_of};
 pub use printer::Printer;
-pub use put::{put_u8, put_u8_if, put_u16, put_u32, put_u32_if, put_ue, put_ue_if};
 pub use widths::{clog2, clog2_laws};

@@ -1,9 +1,9 @@
--- The steps of loops: a reading loop holds what the rest of its table's loop reads, and a writing loop what the items so far put.
+-- The steps of loops that read: a loop holds what the rest of its table's loop reads. And what the items of a valid loop are.
 use Rattle.std.proofs.Common.{◌≡◌, ℕ, zero, suc, ◌+◌, ◌-◌, ◌<◌, ◌≤◌, Bool, List, [], ◌∷◌, ◌++◌, length, get_or, take, Result, Ok, Err, refl, sym, ap, ◌∙◌, subst, append_assoc, append-nil, arith, length-append}
-use Rattle.std.proofs.lemmas.List.{take_more, take_all, length-take-le}
+use Rattle.std.proofs.lemmas.List.{length-take-le}
 use Rattle.mv_syntax.specs.Bits.{Fault, kept}
 use Rattle.mv_syntax.specs.Bits as bits
-use Rattle.mv_syntax.specs.Table.{Table, read, read_each, put, put_each, Valid, EachValid}
+use Rattle.mv_syntax.specs.Table.{Table, read, read_each, Valid, EachValid}
 use Rattle.mv_syntax.specs.Loops.{unzipped, both_lists, items, items_after, items_numbered, columns, columns_after, turns_of_items, turns_of_columns, rest_of_items, rest_of_items_after, rest_of_columns, rest_of_columns_after}
 
 -- ---- the loop as a whole is what its turns read
@@ -112,49 +112,6 @@ pub columns_after_done : {A B : Type 0} (t : ℕ → List A → List B → Table
 unfolding rest_of_columns_after
 columns_after_done t i end ones others b h = rw (none_left i end h) refl
 
--- ---- writing
-pub put_each-append : {A : Type 0} (one : List A → A → List Bool → List Bool) (before some more : List A) (out : List Bool)
-    → put_each one before (some ++ more) out ≡ put_each one (before ++ some) more (put_each one before some out)
-put_each-append one before [] more out = rw (append-nil before) refl
-put_each-append one before (v ∷ some) more out =
-    put_each-append one (before ++ v ∷ []) some more (one before v out) ∙ rw (append_assoc before (v ∷ []) some) refl
-
--- the items up to and with item i put what the items before it put, and then item i
-pub put_each-turn : {A : Type 0} (one : List A → A → List Bool → List Bool) (vs : List A) (i : ℕ) (d : A) (out : List Bool) → i < length vs
-    → put_each one [] (take (i + 1) vs) out ≡ one (take i vs) (get_or vs i d) (put_each one [] (take i vs) out)
-put_each-turn one vs i d out h = rw (take_more vs i d h) (put_each-append one [] (take i vs) (get_or vs i d ∷ []) out)
-
-pub put_items_turn : {A : Type 0} (t : ℕ → Table A) (first n : ℕ) (vs : List A) (i j : ℕ) (d : A) (out : List Bool) → i < length vs → j ≡ first + i
-    → put (items first n t) (take (i + 1) vs) out ≡ put (t j) (get_or vs i d) (put (items first n t) (take i vs) out)
-unfolding items
-put_items_turn t first n vs i j d out h e =
-    put_each-turn (λ before v c. put (t (first + length before)) v c) vs i d out h
-    ∙ rw (length-take-le i vs (omega arith), ← e) refl
-
-pub put_items_after_turn : {A : Type 0} (t : ℕ → List A → Table A) (first n : ℕ) (vs : List A) (i j : ℕ) (d : A) (out : List Bool) → i < length vs → j ≡ first + i
-    → put (items_after first n t) (take (i + 1) vs) out ≡ put (t j (take i vs)) (get_or vs i d) (put (items_after first n t) (take i vs) out)
-unfolding items_after
-put_items_after_turn t first n vs i j d out h e =
-    put_each-turn (λ before v c. put (t (first + length before) before) v c) vs i d out h
-    ∙ rw (length-take-le i vs (omega arith), ← e) refl
-
--- nothing is put before the first item, and all when no item is left
-pub put_items_begin : {A : Type 0} (t : ℕ → Table A) (first n : ℕ) (out : List Bool) → put (items first n t) [] out ≡ out
-unfolding items
-put_items_begin t first n out = refl
-
-pub put_items_done : {A : Type 0} (t : ℕ → Table A) (first n : ℕ) (vs : List A) (i : ℕ) (out : List Bool) → length vs ≤ i
-    → put (items first n t) (take i vs) out ≡ put (items first n t) vs out
-put_items_done t first n vs i out h = rw (take_all i vs h) refl
-
-pub put_items_after_begin : {A : Type 0} (t : ℕ → List A → Table A) (first n : ℕ) (out : List Bool) → put (items_after first n t) [] out ≡ out
-unfolding items_after
-put_items_after_begin t first n out = refl
-
-pub put_items_after_done : {A : Type 0} (t : ℕ → List A → Table A) (first n : ℕ) (vs : List A) (i : ℕ) (out : List Bool) → length vs ≤ i
-    → put (items_after first n t) (take i vs) out ≡ put (items_after first n t) vs out
-put_items_after_done t first n vs i out h = rw (take_all i vs h) refl
-
 -- two lists as one
 pub both_lists-take : {A B : Type 0} (i : ℕ) (ones : List A) (others : List B) → both_lists (take i ones) (take i others) ≡ take i (both_lists ones others)
 both_lists-take zero ones others = refl
@@ -181,24 +138,6 @@ unzipped-both [] [] e = refl
 unzipped-both [] (b ∷ others) e = cc
 unzipped-both (a ∷ ones) [] e = cc
 unzipped-both (a ∷ ones) (b ∷ others) e = ap (λ l. (a ∷ l.0, b ∷ l.1)) (unzipped-both ones others (omega arith))
-
-pub put_columns_turn : {A B : Type 0} (t : ℕ → Table (A × B)) (first n : ℕ) (ones : List A) (others : List B) (i j : ℕ) (d : A) (e : B) (out : List Bool)
-    → i < length ones → i < length others → j ≡ first + i
-    → put (columns first n t) (take (i + 1) ones, take (i + 1) others) out ≡ put (t j) (get_or ones i d, get_or others i e) (put (columns first n t) (take i ones, take i others) out)
-unfolding columns items
-put_columns_turn t first n ones others i j d e out h k same =
-    let at : (i < length (both_lists ones others)) × (get_or (both_lists ones others) i (d, e) ≡ (get_or ones i d, get_or others i e)) =
-    both_lists-at ones others i d e h k in
-    rw (both_lists-take (i + 1) ones others, both_lists-take i ones others, ← at.1)
-    (put_items_turn t first n (both_lists ones others) i j (d, e) out at.0 same)
-
-pub put_columns_begin : {A B : Type 0} (t : ℕ → Table (A × B)) (first n : ℕ) (out : List Bool) → put (columns first n t) ([], []) out ≡ out
-unfolding columns
-put_columns_begin t first n out = refl
-
-pub put_columns_done : {A B : Type 0} (t : ℕ → Table (A × B)) (first n : ℕ) (ones : List A) (others : List B) (i : ℕ) (out : List Bool) → length ones ≤ i → length others ≤ i
-    → put (columns first n t) (take i ones, take i others) out ≡ put (columns first n t) (ones, others) out
-put_columns_done t first n ones others i out h k = rw (take_all i ones h, take_all i others k) refl
 
 -- ---- valid loops
 -- each item of a valid loop is valid at its index
@@ -256,37 +195,6 @@ pub unzipped-take : {A B : Type 0} (ones : List A) (others : List B) (i : ℕ) �
 unzipped-take ones others i h k =
     rw (← both_lists-take i ones others) (unzipped-both (take i ones) (take i others) (length-take-le i ones h ∙ sym (length-take-le i others k)))
 
--- the pairs up to and with pair i put what the pairs before it put, and then pair i
-pub put_pairs_turn : {A B : Type 0} (t : ℕ → List A → List B → Table (A × B)) (first : ℕ) (pairs : List (A × B)) (i j : ℕ) (d : A × B) (out : List Bool)
-    → i < length pairs → j ≡ first + i
-    → put_each (λ so_far v c. put (t (first + length so_far) (unzipped so_far).0 (unzipped so_far).1) v c) [] (take (i + 1) pairs) out
-    ≡ put (t j (unzipped (take i pairs)).0 (unzipped (take i pairs)).1) (get_or pairs i d)
-    (put_each (λ so_far v c. put (t (first + length so_far) (unzipped so_far).0 (unzipped so_far).1) v c) [] (take i pairs) out)
-put_pairs_turn t first pairs i j d out h same =
-    rw same
-    (rw (put_each-turn (λ so_far v c. put (t (first + length so_far) (unzipped so_far).0 (unzipped so_far).1) v c) pairs i d out h)
-    (rw (length-take-le i pairs (omega arith)) refl))
-
-pub put_columns_after_turn : {A B : Type 0} (t : ℕ → List A → List B → Table (A × B)) (first n : ℕ) (ones : List A) (others : List B) (i j : ℕ) (d : A) (e : B) (out : List Bool)
-    → i < length ones → i < length others → j ≡ first + i
-    → put (columns_after first n t) (take (i + 1) ones, take (i + 1) others) out
-    ≡ put (t j (take i ones) (take i others)) (get_or ones i d, get_or others i e) (put (columns_after first n t) (take i ones, take i others) out)
-unfolding columns_after
-put_columns_after_turn t first n ones others i j d e out h k same =
-    let at : (i < length (both_lists ones others)) × (get_or (both_lists ones others) i (d, e) ≡ (get_or ones i d, get_or others i e)) =
-    both_lists-at ones others i d e h k in
-    let before : unzipped (take i (both_lists ones others)) ≡ (take i ones, take i others) = unzipped-take ones others i (omega arith) (omega arith) in
-    rw (both_lists-take (i + 1) ones others, both_lists-take i ones others, ← at.1)
-    (rw (put_pairs_turn t first (both_lists ones others) i j (d, e) out at.0 same) (rw before refl))
-
-pub put_columns_after_begin : {A B : Type 0} (t : ℕ → List A → List B → Table (A × B)) (first n : ℕ) (out : List Bool) → put (columns_after first n t) ([], []) out ≡ out
-unfolding columns_after
-put_columns_after_begin t first n out = refl
-
-pub put_columns_after_done : {A B : Type 0} (t : ℕ → List A → List B → Table (A × B)) (first n : ℕ) (ones : List A) (others : List B) (i : ℕ) (out : List Bool)
-    → length ones ≤ i → length others ≤ i → put (columns_after first n t) (take i ones, take i others) out ≡ put (columns_after first n t) (ones, others) out
-put_columns_after_done t first n ones others i out h k = rw (take_all i ones h, take_all i others k) refl
-
 pub columns_after-lengths : {A B : Type 0} (t : ℕ → List A → List B → Table (A × B)) (first n : ℕ) (ones : List A) (others : List B)
     → Valid (columns_after first n t) (ones, others) → (length ones ≡ n) × (length others ≡ n)
 unfolding columns_after
@@ -326,20 +234,6 @@ items_numbered_begin index t n b =
     let count : n - 0 ≡ n = omega arith in
     rw count (turn_each t n 0 [] b refl)
 
-pub put_items_numbered_turn : {A : Type 0} (index : ℕ → ℕ) (t : ℕ → Table A) (n : ℕ) (vs : List A) (i : ℕ) (d : A) (out : List Bool) → i < length vs
-    → put (items_numbered index n t) (take (i + 1) vs) out ≡ put (t i) (get_or vs i d) (put (items_numbered index n t) (take i vs) out)
-unfolding items_numbered
-put_items_numbered_turn index t n vs i d out h =
-    put_each-turn (λ before v c. put (t (length before)) v c) vs i d out h ∙ rw (length-take-le i vs (omega arith)) refl
-
-pub put_items_numbered_begin : {A : Type 0} (index : ℕ → ℕ) (t : ℕ → Table A) (n : ℕ) (out : List Bool) → put (items_numbered index n t) [] out ≡ out
-unfolding items_numbered
-put_items_numbered_begin index t n out = refl
-
-pub put_items_numbered_done : {A : Type 0} (index : ℕ → ℕ) (t : ℕ → Table A) (n : ℕ) (vs : List A) (i : ℕ) (out : List Bool) → length vs ≤ i
-    → put (items_numbered index n t) (take i vs) out ≡ put (items_numbered index n t) vs out
-put_items_numbered_done index t n vs i out h = rw (take_all i vs h) refl
-
 pub items_numbered-length : {A : Type 0} (index : ℕ → ℕ) (t : ℕ → Table A) (n : ℕ) (vs : List A) → Valid (items_numbered index n t) vs → length vs ≡ n
 unfolding items_numbered
 items_numbered-length index t n vs h = h.0
@@ -350,16 +244,7 @@ unfolding items_numbered
 items_numbered-valid index t n vs i d h k =
     subst (λ m. Valid (t m) (get_or vs i d)) (length-take-le i vs (omega arith)) (each-valid (λ before v. Valid (t (length before)) v) [] vs i d h.1 k)
 
-pub ruleset put_numbered_steps = (put_items_numbered_begin, put_items_numbered_turn, put_items_numbered_done, items_numbered-length, items_numbered-valid)
-
 -- The lemmas for a loop that reads one list, or two: how it begins, a turn, and the end.
 pub ruleset item_steps = (items_begin, items_numbered_begin, items_turn, items_done, items_after_begin, items_after_turn, items_after_done)
 
 pub ruleset column_steps = (columns_begin, columns_turn, columns_done, columns_after_begin, columns_after_turn, columns_after_done)
-
--- The lemmas for a loop that writes one list, or two.
-pub ruleset put_item_steps = (put_items_begin, put_items_turn, put_items_done, put_items_after_begin, put_items_after_turn, put_items_after_done, items-length, items-valid, items_after-length, items_after-valid)
-
-pub ruleset put_column_steps = (put_columns_begin, put_columns_turn, put_columns_done, columns-lengths, columns-valid)
-
-pub ruleset put_column_after_steps = (put_columns_after_begin, put_columns_after_turn, put_columns_after_done, columns_after-lengths, columns_after-valid)

@@ -1,18 +1,17 @@
 ghost use Rattle.std.specs.Prelude.{◌≡◌, ◌≤◌, ◌<◌, ◌^◌, [], true, length, Ok, Err, OnOk, MatchResult};
 ghost use Rattle.mv_syntax.specs.Bits.{align_bits, short};
 ghost use Rattle.mv_syntax.specs.Cursor.{place};
-ghost use Rattle.mv_syntax.specs.Table.{Valid, read, put, behind};
-ghost use Rattle.mv_syntax.specs.Answers.{Fills};
-ghost use Rattle.mv_vps.specs.Faults.{means};
+ghost use Rattle.mv_syntax.specs.Table.{Valid, , behind};
+ghost use Rattle.mv_syntax.specs.Printed.{printed};
+ghost use Rattle.mv_fields.specs.Reading.{ReadsBy, ReadsAs};
 ghost use Rattle.mv_vps.specs.Base.{base, aligned_base};
 
-use crate::fault::VpsFault;
-use crate::head::{VpsHead, head_of, put_head};
-use crate::layer_sets::{VpsLayerSets, all_layer_sets_of, put_all_layer_sets};
-use crate::ordering::{VpsOrdering, ordering_of, put_ordering};
-use crate::timing::{VpsTiming, put_timing_if, timing_if};
+use crate::head::{VpsHead, head_of, print_head};
+use crate::layer_sets::{VpsLayerSets, all_layer_sets_of, print_all_layer_sets};
+use crate::ordering::{VpsOrdering, ordering_of, print_ordering};
+use crate::timing::{VpsTiming, print_timing_if, timing_if};
 use mv_bits::{BitReader, BitWriter, NoBits};
-use mv_fields::{put_u8, u8_of};
+use mv_fields::{print_u8, u8_of};
 use std::alloc::{AllocError, Global};
 use std::marker::Model;
 
@@ -44,8 +43,8 @@ impl Model for VpsBase {
 }
 
 #[tactic(auto, unfolding(crate::specs::Base::base))]
-fn base_of(alloc: Global, bits: &mut BitReader) -> Result<VpsBase, VpsFault>
-    ensures { Fills (λ v. v) means bits.old bits.new result (read base bits.old.left) }
+fn base_of(alloc: Global, bits: &mut BitReader) -> Result<VpsBase, Fault<Rule>>
+    ensures { ReadsBy base bits.old bits.new result }
 {
     let head = head_of(alloc, bits)?;
     let subs = head.vps_max_sub_layers_minus1;
@@ -65,18 +64,18 @@ fn base_of(alloc: Global, bits: &mut BitReader) -> Result<VpsBase, VpsFault>
 }
 
 #[tactic(auto, unfolding(crate::specs::Base::base))]
-fn put_base(out: &mut BitWriter, v: &VpsBase) -> Result<(), AllocError>
+fn print_base(out: &mut Printer, v: &VpsBase) -> Result<(), AllocError>
     requires few { v.now.head.vps_max_sub_layers_minus1 ≤ 6 }
     requires valid { Valid base v.now }
-    ensures { OnOk result (out.new ≡ put base v.now out.old) }
+    ensures { OnOk result (out.new ≡ printed base v.now out.old) }
 {
     let subs = v.head.vps_max_sub_layers_minus1;
-    put_head(out, &v.head)?;
-    put_ordering(out, &v.ordering, subs)?;
-    put_all_layer_sets(out, &v.layer_sets)?;
-    put_u8(out, 1, v.vps_timing_info_present_flag)?;
-    put_timing_if(out, v.vps_timing_info_present_flag == 1, &v.timing, subs)?;
-    put_u8(out, 1, v.vps_extension_flag)
+    print_head(out, &v.head)?;
+    print_ordering(out, &v.ordering, subs)?;
+    print_all_layer_sets(out, &v.layer_sets)?;
+    out.flag("vps_timing_info_present_flag", v.vps_timing_info_present_flag)?;
+    print_timing_if(out, v.vps_timing_info_present_flag == 1, &v.timing, subs)?;
+    out.flag("vps_extension_flag", v.vps_extension_flag)
 }
 
 // Takes one bits up to the end of the byte.
@@ -96,10 +95,10 @@ fn take_ones(bits: &mut BitReader) -> Result<(), NoBits>
 }
 
 /// The fields up to vps_extension_flag from the head of a payload, and before an extension the one bits up to the byte's end.
-pub(crate) fn aligned_base_of(alloc: Global, bits: &mut BitReader) -> Result<VpsBase, VpsFault>
+pub(crate) fn aligned_base_of(alloc: Global, bits: &mut BitReader) -> Result<VpsBase, Fault<Rule>>
     requires at_head { bits.old.total ≡ length bits.old.left }
     requires few { bits.old.total < 2 ^ 64 }
-    ensures { Fills (λ v. v) means bits.old bits.new result (read aligned_base bits.old.left) }
+    ensures { ReadsBy aligned_base bits.old bits.new result }
 {
     let base = match base_of(alloc, bits) {
         Ok(base) => base,
@@ -110,18 +109,18 @@ pub(crate) fn aligned_base_of(alloc: Global, bits: &mut BitReader) -> Result<Vps
     }
     match take_ones(bits) {
         Ok(()) => Ok(base),
-        Err(e) => Err(VpsFault::from(e)),
+        Err(e) => Err(Fault::from(e)),
     }
 }
 
 /// Writes the same at the head of a payload.
-pub(crate) fn put_aligned_base(out: &mut BitWriter, v: &VpsBase) -> Result<(), AllocError>
+pub(crate) fn print_aligned_base(out: &mut Printer, v: &VpsBase) -> Result<(), AllocError>
     requires at_head { out.old ≡ [] }
     requires few { v.now.head.vps_max_sub_layers_minus1 ≤ 6 }
     requires valid { Valid aligned_base v.now }
-    ensures { OnOk result (out.new ≡ put aligned_base v.now out.old) }
+    ensures { OnOk result (out.new ≡ printed aligned_base v.now out.old) }
 {
-    put_base(out, v)?;
+    print_base(out, v)?;
     if v.vps_extension_flag != 1 {
         return Ok(());
     }

@@ -1,19 +1,18 @@
 //! The extension of a video parameter set, and what is derived with it or without.
 
 ghost use Rattle.std.specs.Prelude.{◌≡◌, ◌∷◌, [], OnOk, IfOk};
-ghost use Rattle.mv_syntax.specs.Table.{when, Valid, read, put};
+ghost use Rattle.mv_syntax.specs.Table.{when, Valid};
+ghost use Rattle.mv_syntax.specs.Printed.{printed};
 ghost use Rattle.mv_syntax.specs.Words.{is_set};
-ghost use Rattle.mv_syntax.specs.Answers.{Fills};
+ghost use Rattle.mv_fields.specs.Reading.{ReadsBy, ReadsAs};
 ghost use Rattle.mv_vpsext.specs.Args.{AreVpsArgs};
 ghost use Rattle.mv_vpsext.specs.VpsExt.{vps_extension};
 ghost use Rattle.mv_vpsext.specs.Derived.{derived};
-ghost use Rattle.mv_vps.specs.Faults.{means};
 ghost use Rattle.mv_vps.specs.Base.{args_of};
 ghost use Rattle.mv_vps.specs.Vps.{has_vui, has_extension2_flag, layer_0_alone, described};
 
 use crate::base::VpsBase;
-use crate::fault::VpsFault;
-use mv_bits::{BitReader, BitWriter};
+use mv_bits::BitReader;
 use mv_layers::{Derived, LayerInfo, Ols};
 use mv_vpsext::{VpsArgs, VpsExt};
 use std::alloc::{AllocError, Global};
@@ -69,14 +68,14 @@ fn ext_of(
     alloc: Global,
     bits: &mut BitReader,
     args: &VpsArgs,
-) -> Result<(VpsExt, Derived), VpsFault>
+) -> Result<(VpsExt, Derived), Fault<Rule>>
     requires { AreVpsArgs args.now }
-    ensures reads { Fills (λ v. v.0) means bits.old bits.new result (read (vps_extension args.now) bits.old.left) }
+    ensures reads { ReadsAs (λ v. v.0) (vps_extension args.now) bits.old bits.new result }
     ensures derived { IfOk result (λ v. v.1 ≡ derived args.now v.0) }
 {
     match VpsExt::read(alloc, bits, args) {
         Ok(value) => Ok(value),
-        Err(fault) => Err(VpsFault::from(fault)),
+        Err(fault) => Err(Fault::from(fault)),
     }
 }
 
@@ -85,9 +84,9 @@ pub(crate) fn extension_of(
     alloc: Global,
     bits: &mut BitReader,
     base: &VpsBase,
-) -> Result<(Option<VpsExt>, Derived), VpsFault>
+) -> Result<(Option<VpsExt>, Derived), Fault<Rule>>
     requires { AreVpsArgs (args_of base.now) }
-    ensures fills { Fills (λ v. v.0) means bits.old bits.new result (read (when (is_set base.now.vps_extension_flag) (vps_extension (args_of base.now))) bits.old.left) }
+    ensures fills { ReadsAs (λ v. v.0) (when (is_set base.now.vps_extension_flag) (vps_extension (args_of base.now))) bits.old bits.new result }
     ensures derived { IfOk result (λ v. v.1 ≡ described (args_of base.now) v.0) }
 {
     if base.vps_extension_flag != 1 {
@@ -101,14 +100,14 @@ pub(crate) fn extension_of(
 
 /// Writes the extension behind these fields, where there is one.
 #[tactic(auto, using(mv_vpsext::proofs::Sharing::shared_put_steps))]
-pub(crate) fn put_extension(
-    out: &mut BitWriter,
+pub(crate) fn print_extension(
+    out: &mut Printer,
     base: &VpsBase,
     extension: &Option<VpsExt>,
 ) -> Result<(), AllocError>
     requires args { AreVpsArgs (args_of base.now) }
     requires valid { Valid (when (is_set base.now.vps_extension_flag) (vps_extension (args_of base.now))) extension.now }
-    ensures { OnOk result (out.new ≡ put (when (is_set base.now.vps_extension_flag) (vps_extension (args_of base.now))) extension.now out.old) }
+    ensures { OnOk result (out.new ≡ printed (when (is_set base.now.vps_extension_flag) (vps_extension (args_of base.now))) extension.now out.old) }
 {
     match extension {
         Some(ext) => {

@@ -1,17 +1,16 @@
 //! The hrd_parameters of layer sets (7.3.2.1, E.2.2). One without a first group of its own has that of the one before.
 
 ghost use Rattle.std.specs.Prelude.{◌≡◌, ◌≤◌, OnOk};
-ghost use Rattle.mv_syntax.specs.Table.{by_rule, Valid, read, put};
-ghost use Rattle.mv_syntax.specs.Answers.{Fills};
+ghost use Rattle.mv_syntax.specs.Table.{by_rule, Valid};
+ghost use Rattle.mv_syntax.specs.Printed.{printed};
+ghost use Rattle.mv_fields.specs.Reading.{ReadsBy, ReadsAs};
 ghost use Rattle.mv_syntax.specs.Words.{is_set, ◌otherwise◌};
 ghost use Rattle.mv_common.specs.Hrd.{hrd_parameters, in_force};
-ghost use Rattle.mv_vps.specs.Faults.{means};
 ghost use Rattle.mv_vps.specs.Timing.{vps_hrd, vps_hrds};
 
-use crate::fault::VpsFault;
-use mv_bits::{BitReader, BitWriter};
+use mv_bits::BitReader;
 use mv_common::{Hrd, HrdArgs, HrdFlags, flags_in_force};
-use mv_fields::{put_u8_if, put_ue, u8_if};
+use mv_fields::{print_u8_if, print_ue, u8_if};
 use std::alloc::{AllocError, Global};
 use std::marker::Model;
 
@@ -50,9 +49,9 @@ fn hrd_of(
     common: bool,
     subs: u8,
     before: HrdFlags,
-) -> Result<Hrd, VpsFault>
+) -> Result<Hrd, Fault<Rule>>
     requires { subs ≤ 6 }
-    ensures { Fills (λ v. v) means bits.old bits.new result (read (by_rule 26 (hrd_parameters common subs before)) bits.old.left) }
+    ensures { ReadsBy (by_rule 26 (hrd_parameters common subs before)) bits.old bits.new result }
 {
     let args = HrdArgs {
         common,
@@ -63,13 +62,13 @@ fn hrd_of(
     };
     match Hrd::read(alloc, bits, &args) {
         Ok(value) => Ok(value),
-        Err(fault) => Err(VpsFault::from(fault)),
+        Err(fault) => Err(Fault::from(fault)),
     }
 }
 
 #[tactic(auto, using(mv_vpsext::proofs::Sharing::shared_put_steps))]
-fn put_hrd(
-    out: &mut BitWriter,
+fn print_hrd(
+    out: &mut Printer,
     v: &Hrd,
     common: bool,
     subs: u8,
@@ -77,7 +76,7 @@ fn put_hrd(
 ) -> Result<(), AllocError>
     requires subs { subs ≤ 6 }
     requires valid { Valid (by_rule 26 (hrd_parameters common subs before)) v.now }
-    ensures { OnOk result (out.new ≡ put (by_rule 26 (hrd_parameters common subs before)) v.now out.old) }
+    ensures { OnOk result (out.new ≡ printed (by_rule 26 (hrd_parameters common subs before)) v.now out.old) }
 {
     let args = HrdArgs {
         common,
@@ -103,9 +102,9 @@ fn vps_hrd_of(
     subs: u8,
     before: HrdFlags,
     i: u32,
-) -> Result<VpsHrd, VpsFault>
+) -> Result<VpsHrd, Fault<Rule>>
     requires { subs ≤ 6 }
-    ensures { Fills (λ v. v) means bits.old bits.new result (read (vps_hrd subs before i) bits.old.left) }
+    ensures { ReadsBy (vps_hrd subs before i) bits.old bits.new result }
 {
     let hrd_layer_set_idx = bits.ue()?;
     let cprms_present_flag = u8_if(bits, i > 0, 1)?;
@@ -130,9 +129,9 @@ pub(crate) fn vps_hrds_of(
     bits: &mut BitReader,
     subs: u8,
     n: u32,
-) -> Result<Vec<VpsHrd>, VpsFault>
+) -> Result<Vec<VpsHrd>, Fault<Rule>>
     requires { subs ≤ 6 }
-    ensures { Fills (λ v. v.items) means bits.old bits.new result (read (vps_hrds subs n) bits.old.left) }
+    ensures { ReadsAs (λ v. v.items) (vps_hrds subs n) bits.old bits.new result }
 {
     let mut flags = NO_FLAGS;
     let mut all = Vec::new(alloc);
@@ -145,8 +144,8 @@ pub(crate) fn vps_hrds_of(
 }
 
 #[tactic(auto, unfolding(crate::specs::Timing::vps_hrd))]
-fn put_vps_hrd(
-    out: &mut BitWriter,
+fn print_vps_hrd(
+    out: &mut Printer,
     v: &VpsHrd,
     subs: u8,
     before: HrdFlags,
@@ -154,29 +153,31 @@ fn put_vps_hrd(
 ) -> Result<(), AllocError>
     requires subs { subs ≤ 6 }
     requires valid { Valid (vps_hrd subs before i) v.now }
-    ensures { OnOk result (out.new ≡ put (vps_hrd subs before i) v.now out.old) }
+    ensures { OnOk result (out.new ≡ printed (vps_hrd subs before i) v.now out.old) }
 {
-    put_ue(out, v.hrd_layer_set_idx)?;
-    put_u8_if(out, i > 0, 1, v.cprms_present_flag)?;
+    out.ue("hrd_layer_set_idx", v.hrd_layer_set_idx)?;
+    out.flag_if(i > 0, "cprms_present_flag", v.cprms_present_flag)?;
     let common = has_common(v.cprms_present_flag);
-    put_hrd(out, &v.hrd_parameters, common, subs, before)
+    print_hrd(out, &v.hrd_parameters, common, subs, before)
 }
 
-#[tactic(auto, using(crate::proofs::HrdSteps::put_hrd_steps))]
-pub(crate) fn put_vps_hrds(
-    out: &mut BitWriter,
+#[tactic(auto, using(crate::proofs::HrdSteps::print_hrd_steps))]
+pub(crate) fn print_vps_hrds(
+    out: &mut Printer,
     all: &[VpsHrd],
     subs: u8,
     n: u32,
 ) -> Result<(), AllocError>
     requires subs { subs ≤ 6 }
     requires valid { Valid (vps_hrds subs n) all.now }
-    ensures { OnOk result (out.new ≡ put (vps_hrds subs n) all.now out.old) }
+    ensures { OnOk result (out.new ≡ printed (vps_hrds subs n) all.now out.old) }
 {
     let mut flags = NO_FLAGS;
     for i in 0..all.len() {
-        put_vps_hrd(out, &all[i], subs, flags, i)?;
+        let outer = out.open(i as u64)?;
+        print_vps_hrd(out, &all[i], subs, flags, i)?;
         flags = flags_after(&all[i], flags);
+        out.close(outer);
     }
     Ok(())
 }

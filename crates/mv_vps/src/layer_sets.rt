@@ -1,14 +1,13 @@
 ghost use Rattle.std.specs.Prelude.{◌≡◌, ◌≤◌, OnOk, IfOk};
-ghost use Rattle.mv_syntax.specs.Table.{Valid, read, put};
-ghost use Rattle.mv_syntax.specs.Answers.{Fills};
+ghost use Rattle.mv_syntax.specs.Table.{Valid};
+ghost use Rattle.mv_syntax.specs.Printed.{printed};
+ghost use Rattle.mv_fields.specs.Reading.{ReadsBy, ReadsAs};
 ghost use Rattle.mv_vpsext.specs.Args.{included_flag, layer_set, layer_sets};
-ghost use Rattle.mv_vps.specs.Faults.{means};
 ghost use Rattle.mv_vps.specs.LayerSets.{all_layer_sets};
 
-use crate::fault::VpsFault;
 use crate::fields::{u8_except, ue_within};
-use mv_bits::{BitReader, BitWriter};
-use mv_fields::{put_u8, put_ue, u8_of};
+use mv_bits::BitReader;
+use mv_fields::{print_u8, print_ue, u8_of};
 use mv_layers::LayerSet;
 use std::alloc::{AllocError, Global};
 use std::marker::Model;
@@ -35,8 +34,8 @@ impl Model for VpsLayerSets {
 }
 
 #[tactic(auto, unfolding(mv_vpsext::specs::Args::included_flag))]
-fn included_flag_of(bits: &mut BitReader, j: u8) -> Result<u8, VpsFault>
-    ensures { Fills (λ v. v) means bits.old bits.new result (read (included_flag j) bits.old.left) }
+fn included_flag_of(bits: &mut BitReader, j: u8) -> Result<u8, Fault<Rule>>
+    ensures { ReadsBy (included_flag j) bits.old bits.new result }
 {
     Ok(u8_of(bits, 1)?)
 }
@@ -46,9 +45,9 @@ fn layer_set_of(
     alloc: Global,
     bits: &mut BitReader,
     vps_max_layer_id: u8,
-) -> Result<LayerSet, VpsFault>
+) -> Result<LayerSet, Fault<Rule>>
     requires { vps_max_layer_id ≤ 62 }
-    ensures { Fills (λ v. v) means bits.old bits.new result (read (layer_set vps_max_layer_id) bits.old.left) }
+    ensures { ReadsBy (layer_set vps_max_layer_id) bits.old bits.new result }
 {
     let end = vps_max_layer_id + 1;
     let mut layer_id_included_flag = Vec::new(alloc);
@@ -66,10 +65,10 @@ fn layer_sets_of(
     bits: &mut BitReader,
     vps_num_layer_sets_minus1: u32,
     vps_max_layer_id: u8,
-) -> Result<Vec<LayerSet>, VpsFault>
+) -> Result<Vec<LayerSet>, Fault<Rule>>
     requires sets { vps_num_layer_sets_minus1 ≤ 1023 }
     requires layers { vps_max_layer_id ≤ 62 }
-    ensures { Fills (λ v. v.items) means bits.old bits.new result (read (layer_sets vps_num_layer_sets_minus1 vps_max_layer_id) bits.old.left) }
+    ensures { ReadsAs (λ v. v.items) (layer_sets vps_num_layer_sets_minus1 vps_max_layer_id) bits.old bits.new result }
 {
     let end = vps_num_layer_sets_minus1 + 1;
     let mut all = Vec::new(alloc);
@@ -83,8 +82,8 @@ fn layer_sets_of(
 pub(crate) fn all_layer_sets_of(
     alloc: Global,
     bits: &mut BitReader,
-) -> Result<VpsLayerSets, VpsFault>
-    ensures { Fills (λ v. v) means bits.old bits.new result (read all_layer_sets bits.old.left) }
+) -> Result<VpsLayerSets, Fault<Rule>>
+    ensures { ReadsBy all_layer_sets bits.old bits.new result }
 {
     let vps_max_layer_id = u8_except(bits, 6, 63)?;
     let vps_num_layer_sets_minus1 = ue_within(bits, 1023)?;
@@ -97,59 +96,63 @@ pub(crate) fn all_layer_sets_of(
 }
 
 #[tactic(auto, unfolding(mv_vpsext::specs::Args::included_flag))]
-fn put_included_flag(out: &mut BitWriter, flag: u8, j: usize) -> Result<(), AllocError>
+fn print_included_flag(out: &mut Printer, flag: u8, j: usize) -> Result<(), AllocError>
     requires { Valid (included_flag j) flag }
-    ensures { OnOk result (out.new ≡ put (included_flag j) flag out.old) }
+    ensures { OnOk result (out.new ≡ printed (included_flag j) flag out.old) }
 {
-    put_u8(out, 1, flag)
+    out.flag("NAME", flag)
 }
 
-#[tactic(auto, using(mv_syntax::proofs::LoopLaws::put_item_steps), unfolding(mv_vpsext::specs::Args::layer_set))]
-fn put_flags(out: &mut BitWriter, flags: &[u8], vps_max_layer_id: u8) -> Result<(), AllocError>
+#[tactic(auto, using(mv_syntax::proofs::PrintingLoops::print_item_steps), unfolding(mv_vpsext::specs::Args::layer_set))]
+fn print_flags(out: &mut Printer, flags: &[u8], vps_max_layer_id: u8) -> Result<(), AllocError>
     requires { Valid (layer_set vps_max_layer_id) flags.now }
-    ensures { OnOk result (out.new ≡ put (layer_set vps_max_layer_id) flags.now out.old) }
+    ensures { OnOk result (out.new ≡ printed (layer_set vps_max_layer_id) flags.now out.old) }
 {
     for j in 0..flags.len() {
-        put_included_flag(out, flags[j], j)?;
+        let outer = out.open(j as u64)?;
+        print_included_flag(out, flags[j], j)?;
+        out.close(outer);
     }
     Ok(())
 }
 
-fn put_layer_set(
-    out: &mut BitWriter,
+fn print_layer_set(
+    out: &mut Printer,
     set: &LayerSet,
     vps_max_layer_id: u8,
 ) -> Result<(), AllocError>
     requires { Valid (layer_set vps_max_layer_id) set.now }
-    ensures { OnOk result (out.new ≡ put (layer_set vps_max_layer_id) set.now out.old) }
+    ensures { OnOk result (out.new ≡ printed (layer_set vps_max_layer_id) set.now out.old) }
 {
-    put_flags(out, &set.layer_id_included_flag, vps_max_layer_id)
+    print_flags(out, &set.layer_id_included_flag, vps_max_layer_id)
 }
 
-#[tactic(auto, using(mv_syntax::proofs::LoopLaws::put_item_steps), unfolding(mv_vpsext::specs::Args::layer_sets))]
-fn put_layer_sets(
-    out: &mut BitWriter,
+#[tactic(auto, using(mv_syntax::proofs::PrintingLoops::print_item_steps), unfolding(mv_vpsext::specs::Args::layer_sets))]
+fn print_layer_sets(
+    out: &mut Printer,
     all: &[LayerSet],
     vps_num_layer_sets_minus1: u32,
     vps_max_layer_id: u8,
 ) -> Result<(), AllocError>
     requires { Valid (layer_sets vps_num_layer_sets_minus1 vps_max_layer_id) all.now }
-    ensures { OnOk result (out.new ≡ put (layer_sets vps_num_layer_sets_minus1 vps_max_layer_id) all.now out.old) }
+    ensures { OnOk result (out.new ≡ printed (layer_sets vps_num_layer_sets_minus1 vps_max_layer_id) all.now out.old) }
 {
     for k in 0..all.len() {
-        put_layer_set(out, &all[k], vps_max_layer_id)?;
+        let outer = out.open(k as u64)?;
+        print_layer_set(out, &all[k], vps_max_layer_id)?;
+        out.close(outer);
     }
     Ok(())
 }
 
 #[tactic(auto, unfolding(crate::specs::LayerSets::all_layer_sets))]
-pub(crate) fn put_all_layer_sets(out: &mut BitWriter, v: &VpsLayerSets) -> Result<(), AllocError>
+pub(crate) fn print_all_layer_sets(out: &mut Printer, v: &VpsLayerSets) -> Result<(), AllocError>
     requires { Valid all_layer_sets v.now }
-    ensures { OnOk result (out.new ≡ put all_layer_sets v.now out.old) }
+    ensures { OnOk result (out.new ≡ printed all_layer_sets v.now out.old) }
 {
-    put_u8(out, 6, v.vps_max_layer_id)?;
-    put_ue(out, v.vps_num_layer_sets_minus1)?;
-    put_layer_sets(
+    out.u8("vps_max_layer_id", 6, v.vps_max_layer_id)?;
+    out.ue("vps_num_layer_sets_minus1", v.vps_num_layer_sets_minus1)?;
+    print_layer_sets(
         out,
         &v.layer_id_included_flag,
         v.vps_num_layer_sets_minus1,

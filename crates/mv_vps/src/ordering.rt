@@ -1,13 +1,12 @@
 ghost use Rattle.std.specs.Prelude.{◌≡◌, ◌≤◌, OnOk};
-ghost use Rattle.mv_syntax.specs.Table.{Valid, read, put};
-ghost use Rattle.mv_syntax.specs.Answers.{Fills};
-ghost use Rattle.mv_vps.specs.Faults.{means};
+ghost use Rattle.mv_syntax.specs.Table.{Valid};
+ghost use Rattle.mv_syntax.specs.Printed.{printed};
+ghost use Rattle.mv_fields.specs.Reading.{ReadsBy, ReadsAs};
 ghost use Rattle.mv_vps.specs.Ordering.{sub_layer, sub_layers, first_coded, ordering};
 
-use crate::fault::VpsFault;
 use crate::fields::ue_within;
-use mv_bits::{BitReader, BitWriter};
-use mv_fields::{put_u8, put_ue, u8_of};
+use mv_bits::BitReader;
+use mv_fields::{print_u8, print_ue, u8_of};
 use std::alloc::{AllocError, Global};
 use std::marker::Model;
 
@@ -38,8 +37,8 @@ impl Model for VpsOrdering {
 }
 
 #[tactic(auto, unfolding(crate::specs::Ordering::sub_layer))]
-fn sub_layer_of(bits: &mut BitReader, i: u8) -> Result<VpsSubLayer, VpsFault>
-    ensures { Fills (λ v. v) means bits.old bits.new result (read (sub_layer i) bits.old.left) }
+fn sub_layer_of(bits: &mut BitReader, i: u8) -> Result<VpsSubLayer, Fault<Rule>>
+    ensures { ReadsBy (sub_layer i) bits.old bits.new result }
 {
     Ok(VpsSubLayer {
         vps_max_dec_pic_buffering_minus1: ue_within(bits, 15)?,
@@ -54,10 +53,10 @@ fn sub_layers_of(
     bits: &mut BitReader,
     first: u8,
     subs: u8,
-) -> Result<Vec<VpsSubLayer>, VpsFault>
+) -> Result<Vec<VpsSubLayer>, Fault<Rule>>
     requires first { first ≤ subs }
     requires subs { subs ≤ 6 }
-    ensures { Fills (λ v. v.items) means bits.old bits.new result (read (sub_layers first subs) bits.old.left) }
+    ensures { ReadsAs (λ v. v.items) (sub_layers first subs) bits.old bits.new result }
 {
     let end = subs + 1;
     let mut all = Vec::new(alloc);
@@ -80,9 +79,9 @@ pub(crate) fn ordering_of(
     alloc: Global,
     bits: &mut BitReader,
     subs: u8,
-) -> Result<VpsOrdering, VpsFault>
+) -> Result<VpsOrdering, Fault<Rule>>
     requires { subs ≤ 6 }
-    ensures { Fills (λ v. v) means bits.old bits.new result (read (ordering subs) bits.old.left) }
+    ensures { ReadsBy (ordering subs) bits.old bits.new result }
 {
     let vps_sub_layer_ordering_info_present_flag = u8_of(bits, 1)?;
     let first = first_coded(vps_sub_layer_ordering_info_present_flag, subs);
@@ -94,37 +93,39 @@ pub(crate) fn ordering_of(
 }
 
 #[tactic(auto, unfolding(crate::specs::Ordering::sub_layer))]
-fn put_sub_layer(out: &mut BitWriter, v: &VpsSubLayer, i: usize) -> Result<(), AllocError>
+fn print_sub_layer(out: &mut Printer, v: &VpsSubLayer, i: usize) -> Result<(), AllocError>
     requires { Valid (sub_layer i) v.now }
-    ensures { OnOk result (out.new ≡ put (sub_layer i) v.now out.old) }
+    ensures { OnOk result (out.new ≡ printed (sub_layer i) v.now out.old) }
 {
-    put_ue(out, v.vps_max_dec_pic_buffering_minus1)?;
-    put_ue(out, v.vps_max_num_reorder_pics)?;
-    put_ue(out, v.vps_max_latency_increase_plus1)
+    out.ue("vps_max_dec_pic_buffering_minus1", v.vps_max_dec_pic_buffering_minus1)?;
+    out.ue("vps_max_num_reorder_pics", v.vps_max_num_reorder_pics)?;
+    out.ue("vps_max_latency_increase_plus1", v.vps_max_latency_increase_plus1)
 }
 
-#[tactic(auto, using(mv_syntax::proofs::LoopLaws::put_item_steps), unfolding(crate::specs::Ordering::sub_layers))]
-fn put_sub_layers(
-    out: &mut BitWriter,
+#[tactic(auto, using(mv_syntax::proofs::PrintingLoops::print_item_steps), unfolding(crate::specs::Ordering::sub_layers))]
+fn print_sub_layers(
+    out: &mut Printer,
     all: &[VpsSubLayer],
     first: u8,
     subs: u8,
 ) -> Result<(), AllocError>
     requires { Valid (sub_layers first subs) all.now }
-    ensures { OnOk result (out.new ≡ put (sub_layers first subs) all.now out.old) }
+    ensures { OnOk result (out.new ≡ printed (sub_layers first subs) all.now out.old) }
 {
     for k in 0..all.len() {
-        put_sub_layer(out, &all[k], usize::from(first) + k)?;
+        let outer = out.open(u64::from(first) + k as u64)?;
+        print_sub_layer(out, &all[k], usize::from(first) + k)?;
+        out.close(outer);
     }
     Ok(())
 }
 
 #[tactic(auto, unfolding(crate::specs::Ordering::ordering))]
-pub(crate) fn put_ordering(out: &mut BitWriter, v: &VpsOrdering, subs: u8) -> Result<(), AllocError>
+pub(crate) fn print_ordering(out: &mut Printer, v: &VpsOrdering, subs: u8) -> Result<(), AllocError>
     requires { Valid (ordering subs) v.now }
-    ensures { OnOk result (out.new ≡ put (ordering subs) v.now out.old) }
+    ensures { OnOk result (out.new ≡ printed (ordering subs) v.now out.old) }
 {
     let first = first_coded(v.vps_sub_layer_ordering_info_present_flag, subs);
-    put_u8(out, 1, v.vps_sub_layer_ordering_info_present_flag)?;
-    put_sub_layers(out, &v.sub_layers, first, subs)
+    out.flag("vps_sub_layer_ordering_info_present_flag", v.vps_sub_layer_ordering_info_present_flag)?;
+    print_sub_layers(out, &v.sub_layers, first, subs)
 }

@@ -9,9 +9,8 @@ ghost use Rattle.mv_vps.specs.Base.{args_of};
 ghost use Rattle.mv_vps.specs.Vps.{vps, has_tail, described, ValidVps};
 
 use crate::extension::has_vui;
-use crate::fault::VpsFault;
-use crate::vps::{Vps, fields_of, put_fields};
-use mv_bits::{BitReader, BitWriter, payload_end_of, put_payload_end};
+use crate::vps::{Vps, fields_of, print_fields};
+use mv_bits::{BitReader, BitWriter, payload_end_of, print_payload_end};
 use mv_fields::{MAX_BYTES, coded_set};
 use mv_rules::{ReadFault, Rule};
 use std::alloc::{AllocError, Global};
@@ -24,7 +23,7 @@ fn has_tail(value: &Vps) -> bool
 }
 
 // The fields and the end of a payload that is not too long.
-fn parts_of(alloc: Global, payload: &[u8]) -> Result<Vps, VpsFault>
+fn parts_of(alloc: Global, payload: &[u8]) -> Result<Vps, Fault<Rule>>
     requires { length (byte_bits payload.now) ≤ size_limit }
     ensures fills { FillsPayload (λ v. v.coded) means result (read_payload vps (byte_bits payload.now)) }
     ensures derived { IfOk result (λ v. v.derived ≡ described (args_of v.coded.0.base) v.coded.0.extension) }
@@ -37,7 +36,7 @@ fn parts_of(alloc: Global, payload: &[u8]) -> Result<Vps, VpsFault>
     let tailed = has_tail(&value);
     match payload_end_of(alloc, &mut bits, tailed) {
         Ok(tail) => Ok(Vps { tail, ..value }),
-        Err(fault) => Err(VpsFault::from(fault)),
+        Err(fault) => Err(Fault::from(fault)),
     }
 }
 
@@ -57,9 +56,9 @@ pub fn read_vps(alloc: Global, payload: &[u8]) -> Result<Vps, ReadFault>
     }
     match parts_of(alloc, payload) {
         Ok(value) => Ok(value),
-        Err(VpsFault::NoBits) => Err(ReadFault::Refused(Rule::VpsSyntax)),
-        Err(VpsFault::Breaks(rule)) => Err(ReadFault::Refused(rule)),
-        Err(VpsFault::Memory) => Err(ReadFault::Memory),
+        Err(Fault::NoBits) => Err(ReadFault::Refused(Rule::VpsSyntax)),
+        Err(Fault::Breaks(rule)) => Err(ReadFault::Refused(rule)),
+        Err(Fault::Memory) => Err(ReadFault::Memory),
     }
 }
 
@@ -71,7 +70,7 @@ pub fn write_vps(alloc: Global, value: &Vps) -> Result<Vec<u8>, AllocError>
     ensures { IfOk result (λ bytes. byte_bits bytes.items ≡ payload_bits vps value.now.coded) }
 {
     let mut out = BitWriter::new(alloc);
-    put_fields(&mut out, value)?;
-    put_payload_end(&mut out, &value.tail)?;
+    print_fields(&mut out, value)?;
+    print_payload_end(&mut out, &value.tail)?;
     Ok(out.into_bytes())
 }

@@ -1,14 +1,13 @@
 ghost use Rattle.std.specs.Prelude.{◌≡◌, ◌≤◌, OnOk};
-ghost use Rattle.mv_syntax.specs.Table.{when, Valid, read, put};
-ghost use Rattle.mv_syntax.specs.Answers.{Fills};
-ghost use Rattle.mv_vps.specs.Faults.{means};
+ghost use Rattle.mv_syntax.specs.Table.{when, Valid};
+ghost use Rattle.mv_syntax.specs.Printed.{printed};
+ghost use Rattle.mv_fields.specs.Reading.{ReadsBy, ReadsAs};
 ghost use Rattle.mv_vps.specs.Timing.{timing};
 
-use crate::fault::VpsFault;
 use crate::fields::ue_within;
-use crate::hrds::{VpsHrd, put_vps_hrds, vps_hrds_of};
-use mv_bits::{BitReader, BitWriter};
-use mv_fields::{put_u8, put_u32, put_ue, put_ue_if, u8_of, u32_of, ue_if};
+use crate::hrds::{VpsHrd, print_vps_hrds, vps_hrds_of};
+use mv_bits::BitReader;
+use mv_fields::{print_u8, print_u32, print_ue, print_ue_if, u8_of, u32_of, ue_if};
 use std::alloc::{AllocError, Global};
 use std::marker::Model;
 
@@ -39,9 +38,9 @@ impl Model for VpsTiming {
 }
 
 #[tactic(auto, unfolding(crate::specs::Timing::timing))]
-fn timing_of(alloc: Global, bits: &mut BitReader, subs: u8) -> Result<VpsTiming, VpsFault>
+fn timing_of(alloc: Global, bits: &mut BitReader, subs: u8) -> Result<VpsTiming, Fault<Rule>>
     requires { subs ≤ 6 }
-    ensures { Fills (λ v. v) means bits.old bits.new result (read (timing subs) bits.old.left) }
+    ensures { ReadsBy (timing subs) bits.old bits.new result }
 {
     let vps_num_units_in_tick = u32_of(bits, 32)?;
     let vps_time_scale = u32_of(bits, 32)?;
@@ -65,9 +64,9 @@ pub(crate) fn timing_if(
     bits: &mut BitReader,
     present: bool,
     subs: u8,
-) -> Result<Option<VpsTiming>, VpsFault>
+) -> Result<Option<VpsTiming>, Fault<Rule>>
     requires { subs ≤ 6 }
-    ensures { Fills (λ v. v) means bits.old bits.new result (read (when present (timing subs)) bits.old.left) }
+    ensures { ReadsBy (when present (timing subs)) bits.old bits.new result }
 {
     if !present {
         return Ok(None);
@@ -76,35 +75,31 @@ pub(crate) fn timing_if(
 }
 
 #[tactic(auto, unfolding(crate::specs::Timing::timing))]
-fn put_timing(out: &mut BitWriter, v: &VpsTiming, subs: u8) -> Result<(), AllocError>
+fn print_timing(out: &mut Printer, v: &VpsTiming, subs: u8) -> Result<(), AllocError>
     requires subs { subs ≤ 6 }
     requires valid { Valid (timing subs) v.now }
-    ensures { OnOk result (out.new ≡ put (timing subs) v.now out.old) }
+    ensures { OnOk result (out.new ≡ printed (timing subs) v.now out.old) }
 {
-    put_u32(out, 32, v.vps_num_units_in_tick)?;
-    put_u32(out, 32, v.vps_time_scale)?;
-    put_u8(out, 1, v.vps_poc_proportional_to_timing_flag)?;
-    put_ue_if(
-        out,
-        v.vps_poc_proportional_to_timing_flag == 1,
-        v.vps_num_ticks_poc_diff_one_minus1,
-    )?;
-    put_ue(out, v.vps_num_hrd_parameters)?;
-    put_vps_hrds(out, &v.hrds, subs, v.vps_num_hrd_parameters)
+    out.u32("vps_num_units_in_tick", 32, v.vps_num_units_in_tick)?;
+    out.u32("vps_time_scale", 32, v.vps_time_scale)?;
+    out.flag("vps_poc_proportional_to_timing_flag", v.vps_poc_proportional_to_timing_flag)?;
+    out.ue_if(v.vps_poc_proportional_to_timing_flag == 1, "vps_num_ticks_poc_diff_one_minus1", v.vps_num_ticks_poc_diff_one_minus1)?;
+    out.ue("vps_num_hrd_parameters", v.vps_num_hrd_parameters)?;
+    print_vps_hrds(out, &v.hrds, subs, v.vps_num_hrd_parameters)
 }
 
-pub(crate) fn put_timing_if(
-    out: &mut BitWriter,
+pub(crate) fn print_timing_if(
+    out: &mut Printer,
     present: bool,
     v: &Option<VpsTiming>,
     subs: u8,
 ) -> Result<(), AllocError>
     requires subs { subs ≤ 6 }
     requires valid { Valid (when present (timing subs)) v.now }
-    ensures { OnOk result (out.new ≡ put (when present (timing subs)) v.now out.old) }
+    ensures { OnOk result (out.new ≡ printed (when present (timing subs)) v.now out.old) }
 {
     match v {
-        Some(v) => put_timing(out, v, subs),
+        Some(v) => print_timing(out, v, subs),
         None => Ok(()),
     }
 }

@@ -1,16 +1,15 @@
 ghost use Rattle.std.specs.Prelude.{◌≡◌, ◌≤◌, ◌<◌, ◌^◌, [], length, OnOk, IfOk};
-ghost use Rattle.mv_syntax.specs.Table.{Valid, read, put};
-ghost use Rattle.mv_syntax.specs.Answers.{Fills};
+ghost use Rattle.mv_syntax.specs.Table.{Valid};
+ghost use Rattle.mv_syntax.specs.Printed.{printed};
+ghost use Rattle.mv_fields.specs.Reading.{ReadsBy, ReadsAs};
 ghost use Rattle.mv_vpsext.specs.Args.{AreVpsArgs};
-ghost use Rattle.mv_vps.specs.Faults.{means};
 ghost use Rattle.mv_vps.specs.Base.{args_of};
 ghost use Rattle.mv_vps.specs.Vps.{vps_fields, described};
 
-use crate::base::{VpsBase, aligned_base_of, put_aligned_base};
-use crate::extension::{extension_of, has_extension2_flag, put_extension};
-use crate::fault::VpsFault;
-use mv_bits::{BitReader, BitWriter};
-use mv_fields::{put_u8_if, u8_if};
+use crate::base::{VpsBase, aligned_base_of, print_aligned_base};
+use crate::extension::{extension_of, has_extension2_flag, print_extension};
+use mv_bits::BitReader;
+use mv_fields::{print_u8_if, u8_if};
 use mv_layers::Derived;
 use mv_vpsext::VpsExt;
 use std::alloc::{AllocError, Global};
@@ -52,10 +51,10 @@ impl Model for Vps {
 
 /// The fields of a video parameter set from the head of a payload, up to the tail, which is None here; and what is derived.
 #[tactic(auto, using(crate::proofs::Extending::base_steps), unfolding(crate::specs::Vps::vps_fields))]
-pub(crate) fn fields_of(alloc: Global, bits: &mut BitReader) -> Result<Vps, VpsFault>
+pub(crate) fn fields_of(alloc: Global, bits: &mut BitReader) -> Result<Vps, Fault<Rule>>
     requires at_head { bits.old.total ≡ length bits.old.left }
     requires few { bits.old.total < 2 ^ 64 }
-    ensures fills { Fills (λ v. v.coded.0) means bits.old bits.new result (read vps_fields bits.old.left) }
+    ensures fills { ReadsAs (λ v. v.coded.0) vps_fields bits.old bits.new result }
     ensures derived { IfOk result (λ v. v.derived ≡ described (args_of v.coded.0.base) v.coded.0.extension) }
 {
     let base = aligned_base_of(alloc, bits)?;
@@ -72,19 +71,14 @@ pub(crate) fn fields_of(alloc: Global, bits: &mut BitReader) -> Result<Vps, VpsF
 
 /// Writes the fields of a video parameter set at the head of a payload, up to the tail.
 #[tactic(auto, unfolding(crate::specs::Vps::vps_fields))]
-pub(crate) fn put_fields(out: &mut BitWriter, v: &Vps) -> Result<(), AllocError>
+pub(crate) fn print_fields(out: &mut Printer, v: &Vps) -> Result<(), AllocError>
     requires at_head { out.old ≡ [] }
     requires few { v.now.coded.0.base.head.vps_max_sub_layers_minus1 ≤ 6 }
     requires args { AreVpsArgs (args_of v.now.coded.0.base) }
     requires valid { Valid vps_fields v.now.coded.0 }
-    ensures { OnOk result (out.new ≡ put vps_fields v.now.coded.0 out.old) }
+    ensures { OnOk result (out.new ≡ printed vps_fields v.now.coded.0 out.old) }
 {
-    put_aligned_base(out, &v.base)?;
-    put_extension(out, &v.base, &v.extension)?;
-    put_u8_if(
-        out,
-        has_extension2_flag(&v.extension),
-        1,
-        v.vps_extension2_flag,
-    )
+    print_aligned_base(out, &v.base)?;
+    print_extension(out, &v.base, &v.extension)?;
+    out.flag_if(has_extension2_flag(&v.extension), "vps_extension2_flag", v.vps_extension2_flag)
 }

@@ -1,9 +1,9 @@
--- vps_extension (F.7.3.2.1.1), second part, up to max_tid_il_ref_pics_plus1: the references between layers.
+-- vps_extension (F.7.3.2.1.1), second part, up to default_ref_layers_active_flag: the references between layers.
 use Rattle.std.specs.Prelude.{ℕ, ◌+◌, ◌-◌, List, [], ◌∷◌, Option, refl}
 use Rattle.std.specs.List.{list_any}
 use Rattle.mv_syntax.specs.Table.{Table, ◌>>=◌, u, ue, named, when, shaped}
 use Rattle.mv_syntax.specs.Words.{◌▸◌, ◌>>◌, ◌!◌∶◌, tried, over, is, is_set}
-use Rattle.mv_syntax.specs.Loops.{items}
+use Rattle.mv_syntax.specs.Loops.{items, each, us}
 use Rattle.mv_rules.specs.declared.rule.Rule.TheVariants.{AddedLayerSets, LayerSetBase, LayerSetClosure, LayerSetUnknown, VpsLimit}
 use Rattle.mv_layers.specs.References.{depends}
 use Rattle.mv_layers.specs.LayerInfos.{LayerInfoValue, independent_layers}
@@ -12,11 +12,8 @@ use Rattle.mv_vpsext.specs.Dimensions.{VpsDimensionsValue}
 use Rattle.mv_vpsext.specs.Layers.{layers_described}
 
 -- for i = 1 to vps_max_layers_minus1, for j = 0 to i-1
-unfoldable pub dependency_flag : ℕ → ℕ → Table ℕ
-dependency_flag i j = named "direct_dependency_flag" (u 1)
-
 unfoldable pub layer_dependencies : ℕ → Table (List ℕ)
-layer_dependencies i = items 0 i (dependency_flag i)
+layer_dependencies i = named "direct_dependency_flag" (us 0 i 1)
 
 unfoldable pub dependency_flags : ℕ → Table (List (List ℕ))
 dependency_flags vps_max_layers_minus1 = items 1 vps_max_layers_minus1 layer_dependencies
@@ -31,11 +28,9 @@ added_layer_sets infos sets = tried
     (named "num_add_layer_sets" (when (over 1 (independent_layers infos)) (ue ! AddedLayerSets ∶ over 0)))
 
 -- for i = 0 to vps_max_layers_minus1
-unfoldable pub sub_layers_max : ℕ → Table ℕ
-sub_layers_max i = named "sub_layers_vps_max_minus1" (u 3 ! VpsLimit ∶ is 7)
-
 unfoldable pub all_sub_layers_max : ℕ → Table (List ℕ)
-all_sub_layers_max vps_max_layers_minus1 = items 0 (vps_max_layers_minus1 + 1) sub_layers_max
+all_sub_layers_max vps_max_layers_minus1 =
+    named "sub_layers_vps_max_minus1" (items 0 (vps_max_layers_minus1 + 1) (each (u 3 ! VpsLimit ∶ is 7)))
 
 -- for i = 0 to vps_max_layers_minus1 - 1, for j = i+1 to vps_max_layers_minus1, where layer j refers directly to layer i
 unfoldable pub max_tid : List (List ℕ) → ℕ → ℕ → Table (Option ℕ)
@@ -54,17 +49,19 @@ pub record VpsDependenciesValue : Type 0 where
   pub sub_layers_vps_max_minus1 : Option (List ℕ)
   pub max_tid_ref_present_flag : ℕ
   pub max_tid_il_ref_pics_plus1 : Option (List (List (Option ℕ)))
+  pub default_ref_layers_active_flag : ℕ
 
 -- The layer sets are those from 1 on.
 unfoldable pub dependencies : ℕ → VpsDimensionsValue → List (List ℕ) → Table VpsDependenciesValue
-dependencies vps_max_layers_minus1 first sets = shaped
-    (λ (direct_dependency_flag, (num_add_layer_sets, (vps_sub_layers_max_minus1_present_flag, (sub_layers_vps_max_minus1, (max_tid_ref_present_flag, max_tid_il_ref_pics_plus1))))). record {
+dependencies vps_max_layers_minus1 scalability sets = shaped
+    (λ (direct_dependency_flag, (num_add_layer_sets, (vps_sub_layers_max_minus1_present_flag, (sub_layers_vps_max_minus1, (max_tid_ref_present_flag, (max_tid_il_ref_pics_plus1, default_ref_layers_active_flag)))))). record {
       direct_dependency_flag = direct_dependency_flag;
       num_add_layer_sets = num_add_layer_sets;
       vps_sub_layers_max_minus1_present_flag = vps_sub_layers_max_minus1_present_flag;
       sub_layers_vps_max_minus1 = sub_layers_vps_max_minus1;
       max_tid_ref_present_flag = max_tid_ref_present_flag;
       max_tid_il_ref_pics_plus1 = max_tid_il_ref_pics_plus1;
+      default_ref_layers_active_flag = default_ref_layers_active_flag;
     })
     (λ v.
     v.direct_dependency_flag
@@ -72,12 +69,14 @@ dependencies vps_max_layers_minus1 first sets = shaped
     ▸ v.vps_sub_layers_max_minus1_present_flag
     ▸ v.sub_layers_vps_max_minus1
     ▸ v.max_tid_ref_present_flag
-    ▸ v.max_tid_il_ref_pics_plus1)
+    ▸ v.max_tid_il_ref_pics_plus1
+    ▸ v.default_ref_layers_active_flag)
     (λ _. refl)
     do
       direct_dependency_flag ← dependency_flags vps_max_layers_minus1
-      added_layer_sets (layers_described vps_max_layers_minus1 first.layers first.view_id_val direct_dependency_flag) sets
+      added_layer_sets (layers_described vps_max_layers_minus1 scalability.layers scalability.view_id_val direct_dependency_flag) sets
       vps_sub_layers_max_minus1_present_flag ← named "vps_sub_layers_max_minus1_present_flag" (u 1)
       when (is_set vps_sub_layers_max_minus1_present_flag) (all_sub_layers_max vps_max_layers_minus1)
       max_tid_ref_present_flag ← named "max_tid_ref_present_flag" (u 1)
       when (is_set max_tid_ref_present_flag) (max_tids vps_max_layers_minus1 direct_dependency_flag)
+      named "default_ref_layers_active_flag" (u 1)

@@ -1,4 +1,4 @@
--- vps_extension (F.7.3.2.1.1), last part, up to vps_vui_present_flag: the types of references and bytes of other extensions.
+-- vps_extension (F.7.3.2.1.1), eighth part, up to direct_dependency_type: the types of references.
 use Rattle.std.specs.Prelude.{ℕ, ◌+◌, not, List, Option, refl}
 use Rattle.mv_syntax.specs.Table.{Table, ◌>>=◌, u, ue, named, when, shaped}
 use Rattle.mv_syntax.specs.Words.{◌▸◌, ◌>>◌, ◌!◌∶◌, over, is_set}
@@ -17,47 +17,28 @@ layer_dependency_types width flags i = items 0 i (dependency_type width flags i)
 unfoldable pub dependency_types : ℕ → ℕ → List (List ℕ) → Table (List (List (Option ℕ)))
 dependency_types vps_max_layers_minus1 width flags = items 1 vps_max_layers_minus1 (layer_dependency_types width flags)
 
--- for i = 1 to vps_non_vui_extension_length
-unfoldable pub extension_byte : ℕ → Table ℕ
-extension_byte i = named "vps_non_vui_extension_data_byte" (u 8)
-
-unfoldable pub extension_bytes : ℕ → Table (List ℕ)
-extension_bytes vps_non_vui_extension_length = items 1 vps_non_vui_extension_length extension_byte
-
 pub record VpsDependencyTypesValue : Type 0 where
   pub direct_dep_type_len_minus2 : ℕ
   pub direct_dependency_all_layers_flag : ℕ
   pub direct_dependency_all_layers_type : Option ℕ
   pub direct_dependency_type : Option (List (List (Option ℕ)))
-  pub vps_non_vui_extension_length : ℕ
-  pub vps_non_vui_extension_data_byte : List ℕ
-  pub vps_vui_present_flag : ℕ
 
 unfoldable pub types : ℕ → List (List ℕ) → Table VpsDependencyTypesValue
 types vps_max_layers_minus1 flags = shaped
-    (λ (direct_dep_type_len_minus2, (direct_dependency_all_layers_flag, (direct_dependency_all_layers_type, (direct_dependency_type, (vps_non_vui_extension_length, (vps_non_vui_extension_data_byte, vps_vui_present_flag)))))). record {
+    (λ (direct_dep_type_len_minus2, (direct_dependency_all_layers_flag, (direct_dependency_all_layers_type, direct_dependency_type))). record {
       direct_dep_type_len_minus2 = direct_dep_type_len_minus2;
       direct_dependency_all_layers_flag = direct_dependency_all_layers_flag;
       direct_dependency_all_layers_type = direct_dependency_all_layers_type;
       direct_dependency_type = direct_dependency_type;
-      vps_non_vui_extension_length = vps_non_vui_extension_length;
-      vps_non_vui_extension_data_byte = vps_non_vui_extension_data_byte;
-      vps_vui_present_flag = vps_vui_present_flag;
     })
     (λ v.
     v.direct_dep_type_len_minus2
     ▸ v.direct_dependency_all_layers_flag
     ▸ v.direct_dependency_all_layers_type
-    ▸ v.direct_dependency_type
-    ▸ v.vps_non_vui_extension_length
-    ▸ v.vps_non_vui_extension_data_byte
-    ▸ v.vps_vui_present_flag)
+    ▸ v.direct_dependency_type)
     (λ _. refl)
     do
       direct_dep_type_len_minus2 ← named "direct_dep_type_len_minus2" (ue ! VpsLimit ∶ over 30)
       direct_dependency_all_layers_flag ← named "direct_dependency_all_layers_flag" (u 1)
       named "direct_dependency_all_layers_type" (when (is_set direct_dependency_all_layers_flag) (u (direct_dep_type_len_minus2 + 2) ! DependencyType ∶ over 2))
       when (not (is_set direct_dependency_all_layers_flag)) (dependency_types vps_max_layers_minus1 (direct_dep_type_len_minus2 + 2) flags)
-      vps_non_vui_extension_length ← named "vps_non_vui_extension_length" (ue ! VpsLimit ∶ over 4096)
-      extension_bytes vps_non_vui_extension_length
-      named "vps_vui_present_flag" (u 1)

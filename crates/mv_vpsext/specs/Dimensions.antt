@@ -3,7 +3,7 @@ use Rattle.std.specs.Prelude.{ℕ, ◌+◌, Bool, false, not, ◌&&◌, ◌||◌
 use Rattle.std.specs.List.{list_any}
 use Rattle.mv_syntax.specs.Table.{Table, ◌>>=◌, u, named, when, shaped}
 use Rattle.mv_syntax.specs.Words.{◌under◌, ◌▸◌, ◌>>◌, ◌!◌∶◌, over, is_set, or_zero}
-use Rattle.mv_syntax.specs.Loops.{items, items_after}
+use Rattle.mv_syntax.specs.Loops.{items, items_after, us}
 use Rattle.mv_rules.specs.declared.rule.Rule.{Rule}
 use Rattle.mv_rules.specs.declared.rule.Rule.TheVariants.{Depth, Spatial, Auxiliary, ReservedDimension, NoViewDimension, SameView, Splitting, VpsLimit}
 use Rattle.mv_common.specs.ProfileTier.{ProfileTierValue, profile_tier_level}
@@ -54,11 +54,8 @@ unfoldable pub vps_layers : ℕ → Bool → ℕ → Table (List VpsLayer)
 vps_layers vps_max_layers_minus1 present dimension_id_len = items_after 1 vps_max_layers_minus1 (vps_layer present dimension_id_len)
 
 -- for i = 0 to vps_max_layers_minus1
-unfoldable pub view_id_val : ℕ → ℕ → Table ℕ
-view_id_val view_id_len i = named "view_id_val" (u view_id_len)
-
 unfoldable pub view_id_vals : ℕ → ℕ → Table (List ℕ)
-view_id_vals vps_max_layers_minus1 view_id_len = items 0 (vps_max_layers_minus1 + 1) (view_id_val view_id_len)
+view_id_vals vps_max_layers_minus1 view_id_len = named "view_id_val" (us 0 (vps_max_layers_minus1 + 1) view_id_len)
 
 -- View identifiers are coded, and a view order index has none: past its limit, 26 (this project's profile).
 abbrev pub lacks_view_id : ℕ → List VpsLayer → ℕ → Bool

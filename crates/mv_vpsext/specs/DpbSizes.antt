@@ -1,4 +1,4 @@
--- dpb_size (F.7.3.2.1.3), the sixth part of vps_extension: what a decoder has to hold for an output layer set.
+-- dpb_size (F.7.3.2.1.3), the seventh part of vps_extension: what a decoder has to hold for an output layer set.
 use Rattle.std.specs.Prelude.{ℕ, ◌+◌, ◌-◌, Bool, false, ◌&&◌, ◌||◌, List, [], get_or, length, Option, refl, nat_eq}
 use Rattle.mv_syntax.specs.Table.{Table, ◌>>=◌, u, ue, named, when, shaped}
 use Rattle.mv_syntax.specs.Words.{◌▸◌, ◌>>◌, ◌!◌∶◌, over, is_set, coded_set}

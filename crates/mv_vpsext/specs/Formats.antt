@@ -1,4 +1,4 @@
--- vps_extension (F.7.3.2.1.1), fifth part, up to poc_lsb_not_present_flag: the formats of pictures.
+-- vps_extension (F.7.3.2.1.1), fifth part, up to vps_rep_format_idx: the formats of pictures.
 use Rattle.std.specs.Prelude.{ℕ, ◌+◌, Bool, not, ◌&&◌, ◌||◌, List, Option, refl, nat_eq}
 use Rattle.mv_syntax.specs.Table.{Table, ◌>>=◌, u, ue, named, when, shaped}
 use Rattle.mv_syntax.specs.Words.{◌▸◌, ◌>>◌, ◌!◌∶◌, over, is_set, coded_set}
@@ -8,7 +8,6 @@ use Rattle.mv_vpsext.specs.declared.rep_format.ChromaAndDepth.{ChromaAndDepth}
 use Rattle.mv_vpsext.specs.declared.rep_format.ConformanceWindow.{ConformanceWindow}
 use Rattle.mv_vpsext.specs.declared.rep_format.RepFormat.{RepFormat}
 use Rattle.mv_fields.specs.Widths.{clog2}
-use Rattle.mv_layers.specs.References.{independent}
 
 -- A width or height in luma samples is 1 to 16,384, or else breaks the limit rule, 26 (this project's profile).
 abbrev pub no_side : ℕ → Bool
@@ -99,47 +98,28 @@ rep_format_idx vps_num_rep_formats_minus1 i =
 unfoldable pub rep_format_idxs : ℕ → ℕ → Table (List ℕ)
 rep_format_idxs vps_max_layers_minus1 vps_num_rep_formats_minus1 = items 1 vps_max_layers_minus1 (rep_format_idx vps_num_rep_formats_minus1)
 
--- for i = 1 to vps_max_layers_minus1, where layer i has no direct reference layer
-unfoldable pub poc_lsb_not_present : List (List ℕ) → ℕ → Table (Option ℕ)
-poc_lsb_not_present flags i = named "poc_lsb_not_present_flag" (when (independent flags i) (u 1))
-
-unfoldable pub poc_lsbs_not_present : ℕ → List (List ℕ) → Table (List (Option ℕ))
-poc_lsbs_not_present vps_max_layers_minus1 flags = items 1 vps_max_layers_minus1 (poc_lsb_not_present flags)
-
 pub record VpsFormatsValue : Type 0 where
   pub vps_num_rep_formats_minus1 : ℕ
   pub rep_formats : List RepFormat
   pub rep_format_idx_present_flag : Option ℕ
   pub vps_rep_format_idx : Option (List ℕ)
-  pub max_one_active_ref_layer_flag : ℕ
-  pub vps_poc_lsb_aligned_flag : ℕ
-  pub poc_lsb_not_present_flag : List (Option ℕ)
 
-unfoldable pub formats : ℕ → List (List ℕ) → Table VpsFormatsValue
-formats vps_max_layers_minus1 flags = shaped
-    (λ (vps_num_rep_formats_minus1, (rep_formats, (rep_format_idx_present_flag, (vps_rep_format_idx, (max_one_active_ref_layer_flag, (vps_poc_lsb_aligned_flag, poc_lsb_not_present_flag)))))). record {
+unfoldable pub formats : ℕ → Table VpsFormatsValue
+formats vps_max_layers_minus1 = shaped
+    (λ (vps_num_rep_formats_minus1, (rep_formats, (rep_format_idx_present_flag, vps_rep_format_idx))). record {
       vps_num_rep_formats_minus1 = vps_num_rep_formats_minus1;
       rep_formats = rep_formats;
       rep_format_idx_present_flag = rep_format_idx_present_flag;
       vps_rep_format_idx = vps_rep_format_idx;
-      max_one_active_ref_layer_flag = max_one_active_ref_layer_flag;
-      vps_poc_lsb_aligned_flag = vps_poc_lsb_aligned_flag;
-      poc_lsb_not_present_flag = poc_lsb_not_present_flag;
     })
     (λ v.
     v.vps_num_rep_formats_minus1
     ▸ v.rep_formats
     ▸ v.rep_format_idx_present_flag
-    ▸ v.vps_rep_format_idx
-    ▸ v.max_one_active_ref_layer_flag
-    ▸ v.vps_poc_lsb_aligned_flag
-    ▸ v.poc_lsb_not_present_flag)
+    ▸ v.vps_rep_format_idx)
     (λ _. refl)
     do
       vps_num_rep_formats_minus1 ← named "vps_num_rep_formats_minus1" (ue ! VpsLimit ∶ over 255)
       rep_formats vps_num_rep_formats_minus1
       rep_format_idx_present_flag ← named "rep_format_idx_present_flag" (when (over 0 vps_num_rep_formats_minus1) (u 1))
       when (coded_set rep_format_idx_present_flag) (rep_format_idxs vps_max_layers_minus1 vps_num_rep_formats_minus1)
-      named "max_one_active_ref_layer_flag" (u 1)
-      named "vps_poc_lsb_aligned_flag" (u 1)
-      poc_lsbs_not_present vps_max_layers_minus1 flags

@@ -1,4 +1,3 @@
-pub mod Faults
 pub mod Args
 pub mod Layers
 pub mod Dimensions
@@ -6,8 +5,10 @@ pub mod Dependencies
 pub mod Profiles
 pub mod OutputSets
 pub mod Formats
+pub mod Pictures
 pub mod DpbSizes
 pub mod DependencyTypes
+pub mod ExtEnding
 pub mod Sets
 pub mod VpsExt
 pub mod Derived

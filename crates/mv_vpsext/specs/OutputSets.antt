@@ -2,18 +2,11 @@
 use Rattle.std.specs.Prelude.{ℕ, ◌+◌, ◌-◌, Bool, ◌&&◌, ◌||◌, List, get_or, length, Option, refl, nat_eq, nat_le}
 use Rattle.mv_syntax.specs.Table.{Table, ◌>>=◌, u, ue, named, when, shaped}
 use Rattle.mv_syntax.specs.Words.{◌▸◌, ◌>>◌, ◌!◌∶◌, over, is, is_set, or_zero}
-use Rattle.mv_syntax.specs.Loops.{items}
+use Rattle.mv_syntax.specs.Loops.{items, us}
 use Rattle.mv_rules.specs.declared.rule.Rule.TheVariants.{AltOutput, ReservedOutput, VpsLimit}
 use Rattle.mv_fields.specs.Widths.{clog2}
 use Rattle.mv_layers.specs.LayerInfos.{LayerInfoValue}
 use Rattle.mv_layers.specs.OutputLayers.{OlsLayers, ols_layers, ols_outputs, is_among, with_necessary, one_output_refers}
-
--- for each layer j of the set
-unfoldable pub output_layer_flag : ℕ → Table ℕ
-output_layer_flag j = named "output_layer_flag" (u 1)
-
-unfoldable pub output_layer_flags : ℕ → Table (List ℕ)
-output_layer_flags num_layers = items 0 num_layers output_layer_flag
 
 -- for each layer j of the set, where it is necessary and there are several profile_tier_level
 unfoldable pub profile_tier_level_idx : ℕ → OlsLayers → ℕ → Table (Option ℕ)
@@ -56,7 +49,7 @@ output_layer_set infos sets vps_num_profile_tier_level_minus1 idc i = shaped
       layer_set_idx_for_ols_minus1 ← named "layer_set_idx_for_ols_minus1" (when (over 2 num_layer_sets && nat_le num_layer_sets i)
           (u (clog2 (num_layer_sets - 1)) ! VpsLimit ∶ over (num_layer_sets - 2)))
       let layers : List ℕ = ols_layers sets i layer_set_idx_for_ols_minus1 in do
-        flags ← when (nat_le num_layer_sets i || nat_eq idc 2) (output_layer_flags (length layers))
+        flags ← named "output_layer_flag" (when (nat_le num_layer_sets i || nat_eq idc 2) (us 0 (length layers) 1))
         set_profiles infos vps_num_profile_tier_level_minus1 (with_necessary infos layers (ols_outputs layers flags idc))
 
 -- for i = 1 to NumOutputLayerSets - 1

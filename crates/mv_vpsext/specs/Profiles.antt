@@ -30,23 +30,19 @@ vps_profiles vps_max_sub_layers_minus1 vps_num_profile_tier_level_minus1 =
     items 2 (vps_num_profile_tier_level_minus1 - 1) (vps_profile vps_max_sub_layers_minus1)
 
 pub record VpsProfilesValue : Type 0 where
-  pub default_ref_layers_active_flag : ℕ
   pub vps_num_profile_tier_level_minus1 : ℕ
   pub profiles : List VpsProfileValue
 
 unfoldable pub profiles : ℕ → Table VpsProfilesValue
 profiles vps_max_sub_layers_minus1 = shaped
-    (λ (default_ref_layers_active_flag, (vps_num_profile_tier_level_minus1, profiles)). record {
-      default_ref_layers_active_flag = default_ref_layers_active_flag;
+    (λ (vps_num_profile_tier_level_minus1, profiles). record {
       vps_num_profile_tier_level_minus1 = vps_num_profile_tier_level_minus1;
       profiles = profiles;
     })
     (λ v.
-    v.default_ref_layers_active_flag
-    ▸ v.vps_num_profile_tier_level_minus1
+    v.vps_num_profile_tier_level_minus1
     ▸ v.profiles)
     (λ _. refl)
     do
-      named "default_ref_layers_active_flag" (u 1)
       vps_num_profile_tier_level_minus1 ← named "vps_num_profile_tier_level_minus1" (ue ! VpsLimit ∶ over 63)
       vps_profiles vps_max_sub_layers_minus1 vps_num_profile_tier_level_minus1

@@ -12,7 +12,9 @@ use Rattle.mv_vpsext.specs.Profiles.{VpsProfilesValue, profiles}
 use Rattle.mv_vpsext.specs.OutputSets.{VpsOutputSetsValue, output_sets}
 use Rattle.mv_vpsext.specs.Formats.{VpsFormatsValue, formats}
 use Rattle.mv_vpsext.specs.DpbSizes.{DpbSetValue, dpb_size}
+use Rattle.mv_vpsext.specs.Pictures.{VpsPicturesValue, pictures}
 use Rattle.mv_vpsext.specs.DependencyTypes.{VpsDependencyTypesValue, types}
+use Rattle.mv_vpsext.specs.ExtEnding.{VpsExtEndingValue, ext_ending}
 use Rattle.mv_vpsext.specs.Sets.{all_sets, all_dpb_layers}
 
 -- The fields in coded order, in parts.
@@ -22,27 +24,32 @@ pub record VpsExtValue : Type 0 where
   pub profiles : VpsProfilesValue
   pub output_sets : VpsOutputSetsValue
   pub formats : VpsFormatsValue
+  pub pictures : VpsPicturesValue
   pub dpb_size : List DpbSetValue
-  pub types : VpsDependencyTypesValue
+  pub dependency_types : VpsDependencyTypesValue
+  pub ending : VpsExtEndingValue
 
 -- What the first two parts say of each layer.
 abbrev pub ext_layers : VpsArgsValue → VpsDimensionsValue → VpsDependenciesValue → List LayerInfoValue
-ext_layers args first second = layers_described args.vps_max_layers_minus1 first.layers first.view_id_val second.direct_dependency_flag
+ext_layers args scalability references =
+    layers_described args.vps_max_layers_minus1 scalability.layers scalability.view_id_val references.direct_dependency_flag
 
 -- dpb_size, of the output layer sets that the parts before it give.
 unfoldable pub dpb_sizes : VpsArgsValue → List LayerInfoValue → VpsDependenciesValue → List OlsLayers → Table (List DpbSetValue)
-dpb_sizes args infos second sets = dpb_size (all_dpb_layers infos args.vps_max_sub_layers_minus1 second.sub_layers_vps_max_minus1 sets)
+dpb_sizes args infos references sets = dpb_size (all_dpb_layers infos args.vps_max_sub_layers_minus1 references.sub_layers_vps_max_minus1 sets)
 
 unfoldable pub vps_extension : VpsArgsValue → Table VpsExtValue
 vps_extension args = shaped
-    (λ (dimensions, (dependencies, (profiles, (output_sets, (formats, (dpb_size, types)))))). record {
+    (λ (dimensions, (dependencies, (profiles, (output_sets, (formats, (pictures, (dpb_size, (dependency_types, ending)))))))). record {
       dimensions = dimensions;
       dependencies = dependencies;
       profiles = profiles;
       output_sets = output_sets;
       formats = formats;
+      pictures = pictures;
       dpb_size = dpb_size;
-      types = types;
+      dependency_types = dependency_types;
+      ending = ending;
     })
     (λ v.
     v.dimensions
@@ -50,14 +57,18 @@ vps_extension args = shaped
     ▸ v.profiles
     ▸ v.output_sets
     ▸ v.formats
+    ▸ v.pictures
     ▸ v.dpb_size
-    ▸ v.types)
+    ▸ v.dependency_types
+    ▸ v.ending)
     (λ _. refl)
     do
-      first ← dimensions args.vps_max_layers_minus1 args.vps_max_sub_layers_minus1
-      second ← dependencies args.vps_max_layers_minus1 first args.layer_id_included_flag
-      third ← profiles args.vps_max_sub_layers_minus1
-      fourth ← output_sets (ext_layers args first second) args.layer_id_included_flag third.vps_num_profile_tier_level_minus1
-      formats args.vps_max_layers_minus1 second.direct_dependency_flag
-      dpb_sizes args (ext_layers args first second) second (all_sets (ext_layers args first second) args.layer_id_included_flag fourth)
-      types args.vps_max_layers_minus1 second.direct_dependency_flag
+      scalability ← dimensions args.vps_max_layers_minus1 args.vps_max_sub_layers_minus1
+      references ← dependencies args.vps_max_layers_minus1 scalability args.layer_id_included_flag
+      levels ← profiles args.vps_max_sub_layers_minus1
+      outputs ← output_sets (ext_layers args scalability references) args.layer_id_included_flag levels.vps_num_profile_tier_level_minus1
+      formats args.vps_max_layers_minus1
+      pictures args.vps_max_layers_minus1 references.direct_dependency_flag
+      dpb_sizes args (ext_layers args scalability references) references (all_sets (ext_layers args scalability references) args.layer_id_included_flag outputs)
+      types args.vps_max_layers_minus1 references.direct_dependency_flag
+      ext_ending

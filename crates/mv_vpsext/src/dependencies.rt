@@ -1,16 +1,17 @@
 ghost use Rattle.std.specs.Prelude.{◌≡◌, ◌≤◌, length, OnOk, IfOk, option_map};
-ghost use Rattle.mv_syntax.specs.Table.{when, Valid, read, put};
-ghost use Rattle.mv_syntax.specs.Answers.{Fills};
-ghost use Rattle.mv_vpsext.specs.Faults.{means};
+ghost use Rattle.mv_syntax.specs.Table.{u, when, Valid};
+ghost use Rattle.mv_syntax.specs.Words.{◌!◌∶◌, is};
+ghost use Rattle.mv_syntax.specs.Printed.{printed};
+ghost use Rattle.mv_fields.specs.Reading.{ReadsBy, ReadsAs};
+ghost use Rattle.mv_rules.specs.declared.rule.Rule.TheVariants.{VpsLimit};
 ghost use Rattle.mv_vpsext.specs.Layers.{layers_described};
-ghost use Rattle.mv_vpsext.specs.Dependencies.{dependency_flag, layer_dependencies, dependency_flags, added_layer_sets, sub_layers_max, all_sub_layers_max, max_tid, layer_max_tids, max_tids, dependencies};
+ghost use Rattle.mv_vpsext.specs.Dependencies.{layer_dependencies, dependency_flags, all_sub_layers_max, max_tid, layer_max_tids, max_tids, dependencies};
 
-use crate::added_layer_sets::{added_layer_sets_of, put_added_layer_sets};
+use crate::added_layer_sets::{added_layer_sets_of, print_added_layer_sets};
 use crate::dimensions::VpsDimensions;
-use crate::fault::ExtFault;
 use crate::layers::layers_described;
-use mv_bits::{BitReader, BitWriter};
-use mv_fields::{put_u8, put_u8_if, u8_if, u8_of};
+use mv_bits::BitReader;
+use mv_fields::{Fault, Printer, u8_if, u8_of, u8s_of};
 use mv_layers::{LayerDependencies, LayerInfo, LayerSet, depends};
 use mv_rules::Rule;
 use std::alloc::{AllocError, Global};
@@ -30,7 +31,8 @@ impl Model for LayerMaxTids {
     ghost view = { λ t. t.max_tid_il_ref_pics_plus1.items };
 }
 
-/// The references between layers, the sub-layers of each layer, and up to which of them it serves as reference.
+/// The references between layers, the sub-layers of each layer, up to which of them it serves as reference, and whether all direct
+/// references are active where a slice doesn't say.
 #[derive(Debug, Drop)]
 pub struct VpsDependencies {
     /// Of the layers from index 1 on.
@@ -40,6 +42,7 @@ pub struct VpsDependencies {
     pub sub_layers_vps_max_minus1: Option<Vec<u8>>,
     pub max_tid_ref_present_flag: u8,
     pub max_tid_il_ref_pics_plus1: Option<Vec<LayerMaxTids>>,
+    pub default_ref_layers_active_flag: u8,
 }
 
 impl Model for VpsDependencies {
@@ -55,30 +58,20 @@ impl Model for VpsDependencies {
       sub_layers_vps_max_minus1 = option_map (λ v. v.items) d.sub_layers_vps_max_minus1;
       max_tid_ref_present_flag = d.max_tid_ref_present_flag;
       max_tid_il_ref_pics_plus1 = option_map (λ v. v.items) d.max_tid_il_ref_pics_plus1;
+      default_ref_layers_active_flag = d.default_ref_layers_active_flag;
     } };
 }
 
-#[tactic(auto, unfolding(crate::specs::Dependencies::dependency_flag))]
-fn dependency_flag_of(bits: &mut BitReader, i: u8, j: u8) -> Result<u8, ExtFault>
-    ensures { Fills (λ v. v) means bits.old bits.new result (read (dependency_flag i j) bits.old.left) }
-{
-    Ok(u8_of(bits, 1)?)
-}
-
-#[tactic(auto, using(mv_syntax::proofs::LoopLaws::item_steps), unfolding(crate::specs::Dependencies::layer_dependencies))]
+#[tactic(auto, unfolding(crate::specs::Dependencies::layer_dependencies))]
 fn layer_dependencies_of(
     alloc: Global,
     bits: &mut BitReader,
     i: u8,
-) -> Result<LayerDependencies, ExtFault>
-    ensures { Fills (λ v. v) means bits.old bits.new result (read (layer_dependencies i) bits.old.left) }
+) -> Result<LayerDependencies, Fault<Rule>>
+    ensures { ReadsBy (layer_dependencies i) bits.old bits.new result }
 {
-    let mut all = Vec::new(alloc);
-    for j in 0..i {
-        all.push(dependency_flag_of(bits, i, j)?)?;
-    }
     Ok(LayerDependencies {
-        direct_dependency_flag: all,
+        direct_dependency_flag: u8s_of(alloc, bits, u32::from(i), 1)?,
     })
 }
 
@@ -87,9 +80,9 @@ fn dependency_flags_of(
     alloc: Global,
     bits: &mut BitReader,
     vps_max_layers_minus1: u8,
-) -> Result<Vec<LayerDependencies>, ExtFault>
+) -> Result<Vec<LayerDependencies>, Fault<Rule>>
     requires { vps_max_layers_minus1 ≤ 62 }
-    ensures { Fills (λ v. v.items) means bits.old bits.new result (read (dependency_flags vps_max_layers_minus1) bits.old.left) }
+    ensures { ReadsAs (λ v. v.items) (dependency_flags vps_max_layers_minus1) bits.old bits.new result }
 {
     let end = vps_max_layers_minus1 + 1;
     let mut all = Vec::new(alloc);
@@ -99,30 +92,30 @@ fn dependency_flags_of(
     Ok(all)
 }
 
-#[tactic(auto, unfolding(crate::specs::Dependencies::sub_layers_max))]
-fn sub_layers_max_of(bits: &mut BitReader, i: u8) -> Result<u8, ExtFault>
-    ensures { Fills (λ v. v) means bits.old bits.new result (read (sub_layers_max i) bits.old.left) }
+// The next field u(3), a number of sub-layers, at most 6.
+fn sub_layers_max_of(bits: &mut BitReader) -> Result<u8, Fault<Rule>>
+    ensures { ReadsBy (u 3 ! VpsLimit ∶ is 7) bits.old bits.new result }
 {
     let sub_layers = u8_of(bits, 3)?;
     if sub_layers == 7 {
-        return Err(ExtFault::Breaks(Rule::VpsLimit));
+        return Err(Fault::Breaks(Rule::VpsLimit));
     }
     Ok(sub_layers)
 }
 
-#[tactic(auto, using(mv_syntax::proofs::LoopLaws::item_steps), unfolding(crate::specs::Dependencies::all_sub_layers_max))]
+#[tactic(auto, using(mv_syntax::proofs::LoopLaws::item_steps), unfolding(crate::specs::Dependencies::all_sub_layers_max, mv_syntax::specs::Loops::each))]
 fn all_sub_layers_max_of(
     alloc: Global,
     bits: &mut BitReader,
     vps_max_layers_minus1: u8,
-) -> Result<Vec<u8>, ExtFault>
+) -> Result<Vec<u8>, Fault<Rule>>
     requires { vps_max_layers_minus1 ≤ 62 }
-    ensures { Fills (λ v. v.items) means bits.old bits.new result (read (all_sub_layers_max vps_max_layers_minus1) bits.old.left) }
+    ensures { ReadsAs (λ v. v.items) (all_sub_layers_max vps_max_layers_minus1) bits.old bits.new result }
 {
     let end = vps_max_layers_minus1 + 1;
     let mut all = Vec::new(alloc);
     for i in 0..end {
-        all.push(sub_layers_max_of(bits, i)?)?;
+        all.push(sub_layers_max_of(bits)?)?;
     }
     Ok(all)
 }
@@ -132,9 +125,9 @@ fn all_sub_layers_max_if(
     bits: &mut BitReader,
     present: bool,
     vps_max_layers_minus1: u8,
-) -> Result<Option<Vec<u8>>, ExtFault>
+) -> Result<Option<Vec<u8>>, Fault<Rule>>
     requires { vps_max_layers_minus1 ≤ 62 }
-    ensures { Fills (λ o. option_map (λ v. v.items) o) means bits.old bits.new result (read (when present (all_sub_layers_max vps_max_layers_minus1)) bits.old.left) }
+    ensures { ReadsAs (λ o. option_map (λ v. v.items) o) (when present (all_sub_layers_max vps_max_layers_minus1)) bits.old bits.new result }
 {
     if !present {
         return Ok(None);
@@ -148,8 +141,8 @@ fn max_tid_of(
     flags: &[LayerDependencies],
     i: u8,
     j: u8,
-) -> Result<Option<u8>, ExtFault>
-    ensures { Fills (λ v. v) means bits.old bits.new result (read (max_tid flags.now i j) bits.old.left) }
+) -> Result<Option<u8>, Fault<Rule>>
+    ensures { ReadsBy (max_tid flags.now i j) bits.old bits.new result }
 {
     Ok(u8_if(bits, depends(flags, usize::from(j), usize::from(i)), 3)?)
 }
@@ -161,10 +154,10 @@ fn layer_max_tids_of(
     vps_max_layers_minus1: u8,
     flags: &[LayerDependencies],
     i: u8,
-) -> Result<LayerMaxTids, ExtFault>
+) -> Result<LayerMaxTids, Fault<Rule>>
     requires layers { vps_max_layers_minus1 ≤ 62 }
     requires within { i ≤ vps_max_layers_minus1 }
-    ensures { Fills (λ v. v) means bits.old bits.new result (read (layer_max_tids vps_max_layers_minus1 flags.now i) bits.old.left) }
+    ensures { ReadsBy (layer_max_tids vps_max_layers_minus1 flags.now i) bits.old bits.new result }
 {
     let first = i + 1;
     let end = vps_max_layers_minus1 + 1;
@@ -183,9 +176,9 @@ fn max_tids_of(
     bits: &mut BitReader,
     vps_max_layers_minus1: u8,
     flags: &[LayerDependencies],
-) -> Result<Vec<LayerMaxTids>, ExtFault>
+) -> Result<Vec<LayerMaxTids>, Fault<Rule>>
     requires layers { vps_max_layers_minus1 ≤ 62 }
-    ensures { Fills (λ v. v.items) means bits.old bits.new result (read (max_tids vps_max_layers_minus1 flags.now) bits.old.left) }
+    ensures { ReadsAs (λ v. v.items) (max_tids vps_max_layers_minus1 flags.now) bits.old bits.new result }
 {
     let mut all = Vec::new(alloc);
     for i in 0..vps_max_layers_minus1 {
@@ -200,9 +193,9 @@ fn max_tids_if(
     present: bool,
     vps_max_layers_minus1: u8,
     flags: &[LayerDependencies],
-) -> Result<Option<Vec<LayerMaxTids>>, ExtFault>
+) -> Result<Option<Vec<LayerMaxTids>>, Fault<Rule>>
     requires layers { vps_max_layers_minus1 ≤ 62 }
-    ensures { Fills (λ o. option_map (λ v. v.items) o) means bits.old bits.new result (read (when present (max_tids vps_max_layers_minus1 flags.now)) bits.old.left) }
+    ensures { ReadsAs (λ o. option_map (λ v. v.items) o) (when present (max_tids vps_max_layers_minus1 flags.now)) bits.old bits.new result }
 {
     if !present {
         return Ok(None);
@@ -216,19 +209,19 @@ pub(crate) fn dependencies_of(
     alloc: Global,
     bits: &mut BitReader,
     vps_max_layers_minus1: u8,
-    first: &VpsDimensions,
+    scalability: &VpsDimensions,
     sets: &[LayerSet],
-) -> Result<(VpsDependencies, Vec<LayerInfo>), ExtFault>
+) -> Result<(VpsDependencies, Vec<LayerInfo>), Fault<Rule>>
     requires few { vps_max_layers_minus1 ≤ 62 }
-    ensures reads { Fills (λ v. v.0) means bits.old bits.new result (read (dependencies vps_max_layers_minus1 first.now sets.now) bits.old.left) }
-    ensures layers { IfOk result (λ v. v.1.items ≡ layers_described vps_max_layers_minus1 first.now.layers first.now.view_id_val v.0.direct_dependency_flag) }
+    ensures reads { ReadsAs (λ v. v.0) (dependencies vps_max_layers_minus1 scalability.now sets.now) bits.old bits.new result }
+    ensures layers { IfOk result (λ v. v.1.items ≡ layers_described vps_max_layers_minus1 scalability.now.layers scalability.now.view_id_val v.0.direct_dependency_flag) }
 {
     let flags = dependency_flags_of(alloc, bits, vps_max_layers_minus1)?;
     let infos = layers_described(
         alloc,
         vps_max_layers_minus1,
-        &first.layers,
-        &first.view_id_val,
+        &scalability.layers,
+        &scalability.view_id_val,
         &flags,
     )?;
     let num_add_layer_sets = added_layer_sets_of(alloc, bits, &infos, sets)?;
@@ -247,6 +240,7 @@ pub(crate) fn dependencies_of(
         vps_max_layers_minus1,
         &flags,
     )?;
+    let default_ref_layers_active_flag = u8_of(bits, 1)?;
     let dependencies = VpsDependencies {
         direct_dependency_flag: flags,
         num_add_layer_sets,
@@ -254,111 +248,90 @@ pub(crate) fn dependencies_of(
         sub_layers_vps_max_minus1,
         max_tid_ref_present_flag,
         max_tid_il_ref_pics_plus1,
+        default_ref_layers_active_flag,
     };
     Ok((dependencies, infos))
 }
 
-#[tactic(auto, unfolding(crate::specs::Dependencies::dependency_flag))]
-fn put_dependency_flag(out: &mut BitWriter, i: usize, j: usize, field: u8) -> Result<(), AllocError>
-    requires { Valid (dependency_flag i j) field }
-    ensures { OnOk result (out.new ≡ put (dependency_flag i j) field out.old) }
-{
-    put_u8(out, 1, field)
-}
-
-#[tactic(auto, using(mv_syntax::proofs::LoopLaws::put_item_steps), unfolding(crate::specs::Dependencies::layer_dependencies))]
-fn put_layer_flags(out: &mut BitWriter, all: &[u8], i: usize) -> Result<(), AllocError>
-    requires { Valid (layer_dependencies i) all.now }
-    ensures { OnOk result (out.new ≡ put (layer_dependencies i) all.now out.old) }
-{
-    for j in 0..all.len() {
-        put_dependency_flag(out, i, j, all[j])?;
-    }
-    Ok(())
-}
-
-fn put_layer_dependencies(
-    out: &mut BitWriter,
+#[tactic(auto, unfolding(crate::specs::Dependencies::layer_dependencies))]
+fn print_layer_dependencies(
+    out: &mut Printer,
     v: &LayerDependencies,
-    i: usize,
+    i: u32,
 ) -> Result<(), AllocError>
     requires { Valid (layer_dependencies i) v.now }
-    ensures { OnOk result (out.new ≡ put (layer_dependencies i) v.now out.old) }
+    ensures { OnOk result (out.new ≡ printed (layer_dependencies i) v.now out.old) }
 {
-    put_layer_flags(out, &v.direct_dependency_flag, i)
+    out.u8s("direct_dependency_flag", 0, i, 1, &v.direct_dependency_flag)
 }
 
-#[tactic(auto, using(mv_syntax::proofs::LoopLaws::put_item_steps), unfolding(crate::specs::Dependencies::dependency_flags))]
-fn put_dependency_flags(
-    out: &mut BitWriter,
+#[tactic(auto, using(mv_syntax::proofs::PrintingLoops::print_item_steps), unfolding(crate::specs::Dependencies::dependency_flags))]
+fn print_dependency_flags(
+    out: &mut Printer,
     all: &[LayerDependencies],
     vps_max_layers_minus1: u8,
 ) -> Result<(), AllocError>
     requires few { vps_max_layers_minus1 ≤ 62 }
     requires valid { Valid (dependency_flags vps_max_layers_minus1) all.now }
-    ensures { OnOk result (out.new ≡ put (dependency_flags vps_max_layers_minus1) all.now out.old) }
+    ensures { OnOk result (out.new ≡ printed (dependency_flags vps_max_layers_minus1) all.now out.old) }
 {
     for k in 0..all.len() {
-        put_layer_dependencies(out, &all[k], k + 1)?;
+        let outer = out.open(k as u64 + 1)?;
+        print_layer_dependencies(out, &all[k], k as u32 + 1)?;
+        out.close(outer);
     }
     Ok(())
 }
 
-#[tactic(auto, unfolding(crate::specs::Dependencies::sub_layers_max))]
-fn put_sub_layers_max(out: &mut BitWriter, i: usize, field: u8) -> Result<(), AllocError>
-    requires { Valid (sub_layers_max i) field }
-    ensures { OnOk result (out.new ≡ put (sub_layers_max i) field out.old) }
-{
-    put_u8(out, 3, field)
-}
-
-#[tactic(auto, using(mv_syntax::proofs::LoopLaws::put_item_steps), unfolding(crate::specs::Dependencies::all_sub_layers_max))]
-fn put_all_sub_layers_max(
-    out: &mut BitWriter,
+#[tactic(auto, using(mv_syntax::proofs::PrintingLoops::print_item_steps), unfolding(crate::specs::Dependencies::all_sub_layers_max, mv_syntax::specs::Loops::each))]
+fn print_all_sub_layers_max(
+    out: &mut Printer,
     all: &[u8],
     vps_max_layers_minus1: u8,
 ) -> Result<(), AllocError>
     requires { Valid (all_sub_layers_max vps_max_layers_minus1) all.now }
-    ensures { OnOk result (out.new ≡ put (all_sub_layers_max vps_max_layers_minus1) all.now out.old) }
+    ensures { OnOk result (out.new ≡ printed (all_sub_layers_max vps_max_layers_minus1) all.now out.old) }
 {
     for i in 0..all.len() {
-        put_sub_layers_max(out, i, all[i])?;
+        let outer = out.open(i as u64)?;
+        out.u8("sub_layers_vps_max_minus1", 3, all[i])?;
+        out.close(outer);
     }
     Ok(())
 }
 
-fn put_all_sub_layers_max_if(
-    out: &mut BitWriter,
+fn print_all_sub_layers_max_if(
+    out: &mut Printer,
     present: bool,
     all: &Option<Vec<u8>>,
     vps_max_layers_minus1: u8,
 ) -> Result<(), AllocError>
     requires { Valid (when present (all_sub_layers_max vps_max_layers_minus1)) (option_map (λ v. v.items) all.now) }
-    ensures { OnOk result (out.new ≡ put (when present (all_sub_layers_max vps_max_layers_minus1)) (option_map (λ v. v.items) all.now) out.old) }
+    ensures { OnOk result (out.new ≡ printed (when present (all_sub_layers_max vps_max_layers_minus1)) (option_map (λ v. v.items) all.now) out.old) }
 {
     match all {
-        Some(all) => put_all_sub_layers_max(out, all, vps_max_layers_minus1),
+        Some(all) => print_all_sub_layers_max(out, all, vps_max_layers_minus1),
         None => Ok(()),
     }
 }
 
 #[tactic(auto, unfolding(crate::specs::Dependencies::max_tid))]
-fn put_max_tid(
-    out: &mut BitWriter,
+fn print_max_tid(
+    out: &mut Printer,
     flags: &[LayerDependencies],
     i: usize,
     j: usize,
     field: Option<u8>,
 ) -> Result<(), AllocError>
     requires { Valid (max_tid flags.now i j) field }
-    ensures { OnOk result (out.new ≡ put (max_tid flags.now i j) field out.old) }
+    ensures { OnOk result (out.new ≡ printed (max_tid flags.now i j) field out.old) }
 {
-    put_u8_if(out, depends(flags, j, i), 3, field)
+    out.u8_if(depends(flags, j, i), "max_tid_il_ref_pics_plus1", 3, field)
 }
 
-#[tactic(auto, using(mv_syntax::proofs::LoopLaws::put_item_steps), unfolding(crate::specs::Dependencies::layer_max_tids))]
-fn put_tids_of_layer(
-    out: &mut BitWriter,
+#[tactic(auto, using(mv_syntax::proofs::PrintingLoops::print_item_steps), unfolding(crate::specs::Dependencies::layer_max_tids))]
+fn print_tids_of_layer(
+    out: &mut Printer,
     all: &[Option<u8>],
     vps_max_layers_minus1: u8,
     flags: &[LayerDependencies],
@@ -367,16 +340,18 @@ fn put_tids_of_layer(
     requires few { i ≤ 62 }
     requires layers { vps_max_layers_minus1 ≤ 62 }
     requires valid { Valid (layer_max_tids vps_max_layers_minus1 flags.now i) all.now }
-    ensures { OnOk result (out.new ≡ put (layer_max_tids vps_max_layers_minus1 flags.now i) all.now out.old) }
+    ensures { OnOk result (out.new ≡ printed (layer_max_tids vps_max_layers_minus1 flags.now i) all.now out.old) }
 {
     for k in 0..all.len() {
-        put_max_tid(out, flags, i, i + 1 + k, all[k])?;
+        let outer = out.open(i as u64 + 1 + k as u64)?;
+        print_max_tid(out, flags, i, i + 1 + k, all[k])?;
+        out.close(outer);
     }
     Ok(())
 }
 
-fn put_layer_max_tids(
-    out: &mut BitWriter,
+fn print_layer_max_tids(
+    out: &mut Printer,
     v: &LayerMaxTids,
     vps_max_layers_minus1: u8,
     flags: &[LayerDependencies],
@@ -385,9 +360,9 @@ fn put_layer_max_tids(
     requires few { i ≤ 62 }
     requires layers { vps_max_layers_minus1 ≤ 62 }
     requires valid { Valid (layer_max_tids vps_max_layers_minus1 flags.now i) v.now }
-    ensures { OnOk result (out.new ≡ put (layer_max_tids vps_max_layers_minus1 flags.now i) v.now out.old) }
+    ensures { OnOk result (out.new ≡ printed (layer_max_tids vps_max_layers_minus1 flags.now i) v.now out.old) }
 {
-    put_tids_of_layer(
+    print_tids_of_layer(
         out,
         &v.max_tid_il_ref_pics_plus1,
         vps_max_layers_minus1,
@@ -396,25 +371,27 @@ fn put_layer_max_tids(
     )
 }
 
-#[tactic(auto, using(mv_syntax::proofs::LoopLaws::put_item_steps), unfolding(crate::specs::Dependencies::max_tids))]
-fn put_max_tids(
-    out: &mut BitWriter,
+#[tactic(auto, using(mv_syntax::proofs::PrintingLoops::print_item_steps), unfolding(crate::specs::Dependencies::max_tids))]
+fn print_max_tids(
+    out: &mut Printer,
     all: &[LayerMaxTids],
     vps_max_layers_minus1: u8,
     flags: &[LayerDependencies],
 ) -> Result<(), AllocError>
     requires layers { vps_max_layers_minus1 ≤ 62 }
     requires valid { Valid (max_tids vps_max_layers_minus1 flags.now) all.now }
-    ensures { OnOk result (out.new ≡ put (max_tids vps_max_layers_minus1 flags.now) all.now out.old) }
+    ensures { OnOk result (out.new ≡ printed (max_tids vps_max_layers_minus1 flags.now) all.now out.old) }
 {
     for i in 0..all.len() {
-        put_layer_max_tids(out, &all[i], vps_max_layers_minus1, flags, i)?;
+        let outer = out.open(i as u64)?;
+        print_layer_max_tids(out, &all[i], vps_max_layers_minus1, flags, i)?;
+        out.close(outer);
     }
     Ok(())
 }
 
-fn put_max_tids_if(
-    out: &mut BitWriter,
+fn print_max_tids_if(
+    out: &mut Printer,
     present: bool,
     all: &Option<Vec<LayerMaxTids>>,
     vps_max_layers_minus1: u8,
@@ -422,46 +399,48 @@ fn put_max_tids_if(
 ) -> Result<(), AllocError>
     requires layers { vps_max_layers_minus1 ≤ 62 }
     requires valid { Valid (when present (max_tids vps_max_layers_minus1 flags.now)) (option_map (λ v. v.items) all.now) }
-    ensures { OnOk result (out.new ≡ put (when present (max_tids vps_max_layers_minus1 flags.now)) (option_map (λ v. v.items) all.now) out.old) }
+    ensures { OnOk result (out.new ≡ printed (when present (max_tids vps_max_layers_minus1 flags.now)) (option_map (λ v. v.items) all.now) out.old) }
 {
     match all {
-        Some(all) => put_max_tids(out, all, vps_max_layers_minus1, flags),
+        Some(all) => print_max_tids(out, all, vps_max_layers_minus1, flags),
         None => Ok(()),
     }
 }
 
 #[tactic(auto, unfolding(crate::specs::Dependencies::dependencies))]
-pub(crate) fn put_dependencies(
-    out: &mut BitWriter,
+pub(crate) fn print_dependencies(
+    out: &mut Printer,
     v: &VpsDependencies,
     vps_max_layers_minus1: u8,
-    first: &VpsDimensions,
+    scalability: &VpsDimensions,
     infos: &[LayerInfo],
     sets: &[LayerSet],
 ) -> Result<(), AllocError>
     requires few { vps_max_layers_minus1 ≤ 62 }
-    requires layers { infos.now ≡ layers_described vps_max_layers_minus1 first.now.layers first.now.view_id_val v.now.direct_dependency_flag }
-    requires valid { Valid (dependencies vps_max_layers_minus1 first.now sets.now) v.now }
-    ensures { OnOk result (out.new ≡ put (dependencies vps_max_layers_minus1 first.now sets.now) v.now out.old) }
+    requires layers { infos.now ≡ layers_described vps_max_layers_minus1 scalability.now.layers scalability.now.view_id_val v.now.direct_dependency_flag }
+    requires valid { Valid (dependencies vps_max_layers_minus1 scalability.now sets.now) v.now }
+    ensures { OnOk result (out.new ≡ printed (dependencies vps_max_layers_minus1 scalability.now sets.now) v.now out.old) }
 {
     let flags = &v.direct_dependency_flag;
     let sub_layers_coded = v.vps_sub_layers_max_minus1_present_flag == 1;
     let tids_coded = v.max_tid_ref_present_flag == 1;
-    put_dependency_flags(out, flags, vps_max_layers_minus1)?;
-    put_added_layer_sets(out, v.num_add_layer_sets, infos, sets)?;
-    put_u8(out, 1, v.vps_sub_layers_max_minus1_present_flag)?;
-    put_all_sub_layers_max_if(
+    print_dependency_flags(out, flags, vps_max_layers_minus1)?;
+    print_added_layer_sets(out, v.num_add_layer_sets, infos, sets)?;
+    out.flag("vps_sub_layers_max_minus1_present_flag", v.vps_sub_layers_max_minus1_present_flag)?;
+    print_all_sub_layers_max_if(
         out,
         sub_layers_coded,
         &v.sub_layers_vps_max_minus1,
         vps_max_layers_minus1,
     )?;
-    put_u8(out, 1, v.max_tid_ref_present_flag)?;
-    put_max_tids_if(
+    out.flag("max_tid_ref_present_flag", v.max_tid_ref_present_flag)?;
+    print_max_tids_if(
         out,
         tids_coded,
         &v.max_tid_il_ref_pics_plus1,
         vps_max_layers_minus1,
         flags,
-    )
+    )?;
+    out.flag("default_ref_layers_active_flag", v.default_ref_layers_active_flag)?;
+    Ok(())
 }

@@ -1,21 +1,19 @@
 ghost use Rattle.std.specs.Prelude.{◌≡◌, ◌≢◌, ◌≤◌, ◌+◌, get_or, length, nat_eq, OnOk, IfOk, option_map};
 ghost use Rattle.std.specs.List.{list_any};
 ghost use Rattle.mv_vpsext.specs.declared.dimensions.VpsLayer.{VpsLayer as Layer};
-ghost use Rattle.mv_syntax.specs.Table.{u, when, Valid, read, put};
+ghost use Rattle.mv_syntax.specs.Table.{u, named, when, Valid};
+ghost use Rattle.mv_syntax.specs.Printed.{printed};
 ghost use Rattle.mv_syntax.specs.Words.{◌!◌∶◌, over, is_set, or_zero};
-ghost use Rattle.mv_syntax.specs.Answers.{Fills};
-ghost use Rattle.mv_rules.specs.Rule.{rule_number};
-ghost use Rattle.mv_vpsext.specs.Faults.{means, syntax_rule};
-ghost use Rattle.mv_vpsext.specs.Dimensions.{mask_rule, mask_breaks, mask_flag, mask_flags, no_layer_id, same_view, vps_layer, vps_layers, view_id_val, view_id_vals, lacks_view_id, dimensions};
+ghost use Rattle.mv_fields.specs.Reading.{ReadsBy, ReadsAs};
+ghost use Rattle.mv_vpsext.specs.Layers.{nuh_layer_id};
+ghost use Rattle.mv_vpsext.specs.Dimensions.{mask_rule, mask_breaks, mask_flag, mask_flags, no_layer_id, same_view, vps_layer, vps_layers, view_id_vals, lacks_view_id, dimensions};
 ghost use Rattle.mv_rules.specs.declared.rule.Rule.TheVariants.{SameView, VpsLimit};
 
-use crate::fault::ExtFault;
-use crate::fields::unset_flag;
 use crate::layers::nuh_layer_id;
-use crate::shared::{profile_tier_if, put_profile_tier_if};
-use mv_bits::{BitReader, BitWriter};
+use crate::shared::{profile_tier_if, print_profile_tier_if};
+use mv_bits::BitReader;
 use mv_common::ProfileTier;
-use mv_fields::{or_zero, put_u8, put_u8_if, put_u16, u8_of, u16_of};
+use mv_fields::{Fault, Printer, u8_of, u16_of, unset_flag};
 use mv_rules::Rule;
 use std::alloc::{AllocError, Global};
 use std::marker::Model;
@@ -62,8 +60,7 @@ impl Model for VpsDimensions {
 
 // The rule that the scalability mask flag of this index can break.
 fn mask_rule(i: u8) -> Rule
-    ensures is { result ≡ mask_rule i }
-    ensures no_syntax_rule { rule_number result ≢ syntax_rule }
+    ensures { result ≡ mask_rule i }
 {
     match i {
         0 => Rule::Depth,
@@ -84,12 +81,12 @@ fn mask_breaks(vps_max_layers_minus1: u8, i: u8, flag: u8) -> bool
 }
 
 #[tactic(auto, unfolding(crate::specs::Dimensions::mask_flag))]
-fn mask_flag_of(bits: &mut BitReader, vps_max_layers_minus1: u8, i: u8) -> Result<u8, ExtFault>
-    ensures { Fills (λ v. v) means bits.old bits.new result (read (mask_flag vps_max_layers_minus1 i) bits.old.left) }
+fn mask_flag_of(bits: &mut BitReader, vps_max_layers_minus1: u8, i: u8) -> Result<u8, Fault<Rule>>
+    ensures { ReadsBy (mask_flag vps_max_layers_minus1 i) bits.old bits.new result }
 {
     let flag = u8_of(bits, 1)?;
     if mask_breaks(vps_max_layers_minus1, i, flag) {
-        return Err(ExtFault::Breaks(mask_rule(i)));
+        return Err(Fault::Breaks(mask_rule(i)));
     }
     Ok(flag)
 }
@@ -99,8 +96,8 @@ fn mask_flags_of(
     alloc: Global,
     bits: &mut BitReader,
     vps_max_layers_minus1: u8,
-) -> Result<Vec<u8>, ExtFault>
-    ensures { Fills (λ v. v.items) means bits.old bits.new result (read (mask_flags vps_max_layers_minus1) bits.old.left) }
+) -> Result<Vec<u8>, Fault<Rule>>
+    ensures { ReadsAs (λ v. v.items) (mask_flags vps_max_layers_minus1) bits.old bits.new result }
 {
     let mut all = Vec::new(alloc);
     for i in 0..16 {
@@ -121,8 +118,8 @@ fn has_views(flags: &[u8]) -> bool
 
 // The next field u(3), where it is present.
 #[tactic(auto, using(crate::proofs::Sharing::small))]
-fn id_len_if(bits: &mut BitReader, present: bool) -> Result<Option<u8>, ExtFault>
-    ensures reads { Fills (λ v. v) means bits.old bits.new result (read (when present (u 3)) bits.old.left) }
+fn id_len_if(bits: &mut BitReader, present: bool) -> Result<Option<u8>, Fault<Rule>>
+    ensures reads { ReadsBy (when present (u 3)) bits.old bits.new result }
     ensures small { IfOk result (λ len. or_zero len ≤ 7) }
 {
     if !present {
@@ -143,15 +140,15 @@ fn id_width(dimension_id_len_minus1: Option<u8>) -> u8
 }
 
 // The next field layer_id_in_nuh, behind a layer of the nuh_layer_id `before`, where it is present.
-fn layer_id_if(bits: &mut BitReader, present: bool, before: u8) -> Result<Option<u8>, ExtFault>
-    ensures { Fills (λ v. v) means bits.old bits.new result (read (when present (u 6 ! VpsLimit ∶ no_layer_id before)) bits.old.left) }
+fn layer_id_if(bits: &mut BitReader, present: bool, before: u8) -> Result<Option<u8>, Fault<Rule>>
+    ensures { ReadsBy (when present (u 6 ! VpsLimit ∶ no_layer_id before)) bits.old bits.new result }
 {
     if !present {
         return Ok(None);
     }
     let id = u8_of(bits, 6)?;
     if id == 63 || id <= before {
-        return Err(ExtFault::Breaks(Rule::VpsLimit));
+        return Err(Fault::Breaks(Rule::VpsLimit));
     }
     Ok(Some(id))
 }
@@ -174,13 +171,13 @@ fn same_view(before: &[VpsLayer], id: u8) -> bool
 }
 
 // The next field dimension_id, of this width, behind these layers.
-fn dimension_id_of(bits: &mut BitReader, width: u8, before: &[VpsLayer]) -> Result<u8, ExtFault>
+fn dimension_id_of(bits: &mut BitReader, width: u8, before: &[VpsLayer]) -> Result<u8, Fault<Rule>>
     requires { width ≤ 8 }
-    ensures { Fills (λ v. v) means bits.old bits.new result (read (u width ! SameView ∶ same_view before.now) bits.old.left) }
+    ensures { ReadsBy (u width ! SameView ∶ same_view before.now) bits.old bits.new result }
 {
     let id = u8_of(bits, width)?;
     if same_view(before, id) {
-        return Err(ExtFault::Breaks(Rule::SameView));
+        return Err(Fault::Breaks(Rule::SameView));
     }
     Ok(id)
 }
@@ -192,10 +189,10 @@ fn vps_layer_of(
     width: u8,
     i: u8,
     before: &[VpsLayer],
-) -> Result<VpsLayer, ExtFault>
+) -> Result<VpsLayer, Fault<Rule>>
     requires width { width ≤ 8 }
     requires few { length before.now ≤ 62 }
-    ensures { Fills (λ v. v) means bits.old bits.new result (read (vps_layer present width i before.now) bits.old.left) }
+    ensures { ReadsBy (vps_layer present width i before.now) bits.old bits.new result }
 {
     let layer_id_in_nuh = layer_id_if(bits, present, nuh_layer_id(before, before.len()))?;
     let dimension_id = dimension_id_of(bits, width, before)?;
@@ -212,10 +209,10 @@ fn vps_layers_of(
     vps_max_layers_minus1: u8,
     present: bool,
     width: u8,
-) -> Result<Vec<VpsLayer>, ExtFault>
+) -> Result<Vec<VpsLayer>, Fault<Rule>>
     requires layers { vps_max_layers_minus1 ≤ 62 }
     requires width { width ≤ 8 }
-    ensures { Fills (λ v. v.items) means bits.old bits.new result (read (vps_layers vps_max_layers_minus1 present width) bits.old.left) }
+    ensures { ReadsAs (λ v. v.items) (vps_layers vps_max_layers_minus1 present width) bits.old bits.new result }
 {
     let end = vps_max_layers_minus1 + 1;
     let mut all = Vec::new(alloc);
@@ -250,40 +247,32 @@ fn view_id_len_of(
     bits: &mut BitReader,
     vps_max_layers_minus1: u8,
     layers: &[VpsLayer],
-) -> Result<u8, ExtFault>
+) -> Result<u8, Fault<Rule>>
     ensures small { IfOk result (λ len. len ≤ 15) }
-    ensures reads { Fills (λ v. v) means bits.old bits.new result (read (u 4 ! VpsLimit ∶ lacks_view_id vps_max_layers_minus1 layers.now) bits.old.left) }
+    ensures reads { ReadsBy (u 4 ! VpsLimit ∶ lacks_view_id vps_max_layers_minus1 layers.now) bits.old bits.new result }
 {
     let view_id_len = u8_of(bits, 4)?;
     if lacks_view_id(vps_max_layers_minus1, layers, view_id_len) {
-        return Err(ExtFault::Breaks(Rule::VpsLimit));
+        return Err(Fault::Breaks(Rule::VpsLimit));
     }
     Ok(view_id_len)
 }
 
-#[tactic(auto, unfolding(crate::specs::Dimensions::view_id_val))]
-fn view_id_val_of(bits: &mut BitReader, view_id_len: u8, i: u8) -> Result<u16, ExtFault>
-    requires { view_id_len ≤ 15 }
-    ensures { Fills (λ v. v) means bits.old bits.new result (read (view_id_val view_id_len i) bits.old.left) }
-{
-    Ok(u16_of(bits, view_id_len)?)
-}
-
-#[tactic(auto, using(mv_syntax::proofs::LoopLaws::item_steps), unfolding(crate::specs::Dimensions::view_id_vals))]
+#[tactic(auto, using(mv_syntax::proofs::LoopLaws::item_steps), unfolding(crate::specs::Dimensions::view_id_vals, mv_syntax::specs::Loops::each))]
 fn view_id_vals_of(
     alloc: Global,
     bits: &mut BitReader,
     vps_max_layers_minus1: u8,
     view_id_len: u8,
-) -> Result<Vec<u16>, ExtFault>
+) -> Result<Vec<u16>, Fault<Rule>>
     requires layers { vps_max_layers_minus1 ≤ 62 }
     requires width { view_id_len ≤ 15 }
-    ensures { Fills (λ v. v.items) means bits.old bits.new result (read (view_id_vals vps_max_layers_minus1 view_id_len) bits.old.left) }
+    ensures { ReadsAs (λ v. v.items) (view_id_vals vps_max_layers_minus1 view_id_len) bits.old bits.new result }
 {
     let end = vps_max_layers_minus1 + 1;
     let mut all = Vec::new(alloc);
     for i in 0..end {
-        all.push(view_id_val_of(bits, view_id_len, i)?)?;
+        all.push(u16_of(bits, view_id_len)?)?;
     }
     Ok(all)
 }
@@ -294,10 +283,10 @@ fn view_id_vals_if(
     present: bool,
     vps_max_layers_minus1: u8,
     view_id_len: u8,
-) -> Result<Option<Vec<u16>>, ExtFault>
+) -> Result<Option<Vec<u16>>, Fault<Rule>>
     requires layers { vps_max_layers_minus1 ≤ 62 }
     requires width { view_id_len ≤ 15 }
-    ensures { Fills (λ o. option_map (λ v. v.items) o) means bits.old bits.new result (read (when present (view_id_vals vps_max_layers_minus1 view_id_len)) bits.old.left) }
+    ensures { ReadsAs (λ o. option_map (λ v. v.items) o) (when present (view_id_vals vps_max_layers_minus1 view_id_len)) bits.old bits.new result }
 {
     if !present {
         return Ok(None);
@@ -311,10 +300,10 @@ pub(crate) fn dimensions_of(
     bits: &mut BitReader,
     vps_max_layers_minus1: u8,
     vps_max_sub_layers_minus1: u8,
-) -> Result<VpsDimensions, ExtFault>
+) -> Result<VpsDimensions, Fault<Rule>>
     requires layers { vps_max_layers_minus1 ≤ 62 }
     requires subs { vps_max_sub_layers_minus1 ≤ 6 }
-    ensures { Fills (λ v. v) means bits.old bits.new result (read (dimensions vps_max_layers_minus1 vps_max_sub_layers_minus1) bits.old.left) }
+    ensures { ReadsBy (dimensions vps_max_layers_minus1 vps_max_sub_layers_minus1) bits.old bits.new result }
 {
     let several = vps_max_layers_minus1 > 0;
     let profile_tier_level = profile_tier_if(alloc, bits, several, vps_max_sub_layers_minus1)?;
@@ -351,66 +340,56 @@ pub(crate) fn dimensions_of(
 }
 
 #[tactic(auto, unfolding(crate::specs::Dimensions::mask_flag))]
-fn put_mask_flag(
-    out: &mut BitWriter,
+fn print_mask_flag(
+    out: &mut Printer,
     vps_max_layers_minus1: u8,
     i: usize,
     flag: u8,
 ) -> Result<(), AllocError>
     requires { Valid (mask_flag vps_max_layers_minus1 i) flag }
-    ensures { OnOk result (out.new ≡ put (mask_flag vps_max_layers_minus1 i) flag out.old) }
+    ensures { OnOk result (out.new ≡ printed (mask_flag vps_max_layers_minus1 i) flag out.old) }
 {
-    put_u8(out, 1, flag)
+    out.flag("scalability_mask_flag", flag)
 }
 
-#[tactic(auto, using(mv_syntax::proofs::LoopLaws::put_item_steps), unfolding(crate::specs::Dimensions::mask_flags))]
-fn put_mask_flags(
-    out: &mut BitWriter,
+#[tactic(auto, using(mv_syntax::proofs::PrintingLoops::print_item_steps), unfolding(crate::specs::Dimensions::mask_flags))]
+fn print_mask_flags(
+    out: &mut Printer,
     all: &[u8],
     vps_max_layers_minus1: u8,
 ) -> Result<(), AllocError>
     requires { Valid (mask_flags vps_max_layers_minus1) all.now }
-    ensures { OnOk result (out.new ≡ put (mask_flags vps_max_layers_minus1) all.now out.old) }
+    ensures { OnOk result (out.new ≡ printed (mask_flags vps_max_layers_minus1) all.now out.old) }
 {
     for i in 0..all.len() {
-        put_mask_flag(out, vps_max_layers_minus1, i, all[i])?;
+        let outer = out.open(i as u64)?;
+        print_mask_flag(out, vps_max_layers_minus1, i, all[i])?;
+        out.close(outer);
     }
     Ok(())
 }
 
-#[tactic(auto, unfolding(crate::specs::Dimensions::view_id_val))]
-fn put_view_id_val(
-    out: &mut BitWriter,
-    view_id_len: u8,
-    i: usize,
-    field: u16,
-) -> Result<(), AllocError>
-    requires width { view_id_len ≤ 15 }
-    requires valid { Valid (view_id_val view_id_len i) field }
-    ensures { OnOk result (out.new ≡ put (view_id_val view_id_len i) field out.old) }
-{
-    put_u16(out, view_id_len, field)
-}
-
-#[tactic(auto, using(mv_syntax::proofs::LoopLaws::put_item_steps), unfolding(crate::specs::Dimensions::view_id_vals))]
-fn put_view_id_vals(
-    out: &mut BitWriter,
+#[tactic(auto, using(mv_syntax::proofs::PrintingLoops::print_item_steps), unfolding(crate::specs::Dimensions::view_id_vals, mv_syntax::specs::Loops::each))]
+fn print_view_id_vals(
+    out: &mut Printer,
     all: &[u16],
     vps_max_layers_minus1: u8,
     view_id_len: u8,
 ) -> Result<(), AllocError>
     requires width { view_id_len ≤ 15 }
     requires valid { Valid (view_id_vals vps_max_layers_minus1 view_id_len) all.now }
-    ensures { OnOk result (out.new ≡ put (view_id_vals vps_max_layers_minus1 view_id_len) all.now out.old) }
+    ensures { OnOk result (out.new ≡ printed (view_id_vals vps_max_layers_minus1 view_id_len) all.now out.old) }
 {
     for i in 0..all.len() {
-        put_view_id_val(out, view_id_len, i, all[i])?;
+        let outer = out.open(i as u64)?;
+        out.u16("view_id_val", view_id_len, all[i])?;
+        out.close(outer);
     }
     Ok(())
 }
 
-fn put_view_id_vals_if(
-    out: &mut BitWriter,
+fn print_view_id_vals_if(
+    out: &mut Printer,
     present: bool,
     all: &Option<Vec<u16>>,
     vps_max_layers_minus1: u8,
@@ -418,17 +397,32 @@ fn put_view_id_vals_if(
 ) -> Result<(), AllocError>
     requires width { view_id_len ≤ 15 }
     requires valid { Valid (when present (view_id_vals vps_max_layers_minus1 view_id_len)) (option_map (λ v. v.items) all.now) }
-    ensures { OnOk result (out.new ≡ put (when present (view_id_vals vps_max_layers_minus1 view_id_len)) (option_map (λ v. v.items) all.now) out.old) }
+    ensures { OnOk result (out.new ≡ printed (when present (view_id_vals vps_max_layers_minus1 view_id_len)) (option_map (λ v. v.items) all.now) out.old) }
 {
     match all {
-        Some(all) => put_view_id_vals(out, all, vps_max_layers_minus1, view_id_len),
+        Some(all) => print_view_id_vals(out, all, vps_max_layers_minus1, view_id_len),
+        None => Ok(()),
+    }
+}
+
+fn print_layer_id_if(
+    out: &mut Printer,
+    present: bool,
+    field: Option<u8>,
+    before: &[VpsLayer],
+) -> Result<(), AllocError>
+    requires { Valid (named "layer_id_in_nuh" (when present (u 6 ! VpsLimit ∶ no_layer_id (nuh_layer_id before.now (length before.now))))) field }
+    ensures { OnOk result (out.new ≡ printed (named "layer_id_in_nuh" (when present (u 6 ! VpsLimit ∶ no_layer_id (nuh_layer_id before.now (length before.now))))) field out.old) }
+{
+    match field {
+        Some(id) => out.u8("layer_id_in_nuh", 6, id),
         None => Ok(()),
     }
 }
 
 #[tactic(auto, unfolding(crate::specs::Dimensions::vps_layer))]
-fn put_vps_layer(
-    out: &mut BitWriter,
+fn print_vps_layer(
+    out: &mut Printer,
     v: &VpsLayer,
     present: bool,
     width: u8,
@@ -437,15 +431,16 @@ fn put_vps_layer(
 ) -> Result<(), AllocError>
     requires width { width ≤ 8 }
     requires valid { Valid (vps_layer present width i before.now) v.now }
-    ensures { OnOk result (out.new ≡ put (vps_layer present width i before.now) v.now out.old) }
+    ensures { OnOk result (out.new ≡ printed (vps_layer present width i before.now) v.now out.old) }
 {
-    put_u8_if(out, present, 6, v.layer_id_in_nuh)?;
-    put_u8(out, width, v.dimension_id)
+    print_layer_id_if(out, present, v.layer_id_in_nuh, before)?;
+    out.u8("dimension_id", width, v.dimension_id)?;
+    Ok(())
 }
 
-#[tactic(auto, using(mv_syntax::proofs::LoopLaws::put_item_steps), unfolding(crate::specs::Dimensions::vps_layers))]
-fn put_vps_layers(
-    out: &mut BitWriter,
+#[tactic(auto, using(mv_syntax::proofs::PrintingLoops::print_item_steps), unfolding(crate::specs::Dimensions::vps_layers))]
+fn print_vps_layers(
+    out: &mut Printer,
     all: &[VpsLayer],
     vps_max_layers_minus1: u8,
     present: bool,
@@ -454,17 +449,19 @@ fn put_vps_layers(
     requires width { width ≤ 8 }
     requires few { vps_max_layers_minus1 ≤ 62 }
     requires valid { Valid (vps_layers vps_max_layers_minus1 present width) all.now }
-    ensures { OnOk result (out.new ≡ put (vps_layers vps_max_layers_minus1 present width) all.now out.old) }
+    ensures { OnOk result (out.new ≡ printed (vps_layers vps_max_layers_minus1 present width) all.now out.old) }
 {
     for k in 0..all.len() {
-        put_vps_layer(out, &all[k], present, width, k + 1, &all[..k])?;
+        let outer = out.open(k as u64 + 1)?;
+        print_vps_layer(out, &all[k], present, width, k + 1, &all[..k])?;
+        out.close(outer);
     }
     Ok(())
 }
 
 #[tactic(auto, using(crate::proofs::DimensionLaws::dimension_steps), unfolding(crate::specs::Dimensions::dimensions))]
-pub(crate) fn put_dimensions(
-    out: &mut BitWriter,
+pub(crate) fn print_dimensions(
+    out: &mut Printer,
     v: &VpsDimensions,
     vps_max_layers_minus1: u8,
     vps_max_sub_layers_minus1: u8,
@@ -472,29 +469,30 @@ pub(crate) fn put_dimensions(
     requires layers { vps_max_layers_minus1 ≤ 62 }
     requires subs { vps_max_sub_layers_minus1 ≤ 6 }
     requires valid { Valid (dimensions vps_max_layers_minus1 vps_max_sub_layers_minus1) v.now }
-    ensures { OnOk result (out.new ≡ put (dimensions vps_max_layers_minus1 vps_max_sub_layers_minus1) v.now out.old) }
+    ensures { OnOk result (out.new ≡ printed (dimensions vps_max_layers_minus1 vps_max_sub_layers_minus1) v.now out.old) }
 {
     let several = vps_max_layers_minus1 > 0;
     let views = has_views(&v.scalability_mask_flag);
     let coded = v.vps_nuh_layer_id_present_flag == 1;
     let width = id_width(v.dimension_id_len_minus1);
-    put_profile_tier_if(
+    print_profile_tier_if(
         out,
         several,
         &v.profile_tier_level,
         vps_max_sub_layers_minus1,
     )?;
-    put_u8(out, 1, v.splitting_flag)?;
-    put_mask_flags(out, &v.scalability_mask_flag, vps_max_layers_minus1)?;
-    put_u8_if(out, views, 3, v.dimension_id_len_minus1)?;
-    put_u8(out, 1, v.vps_nuh_layer_id_present_flag)?;
-    put_vps_layers(out, &v.layers, vps_max_layers_minus1, coded, width)?;
-    put_u8(out, 4, v.view_id_len)?;
-    put_view_id_vals_if(
+    out.flag("splitting_flag", v.splitting_flag)?;
+    print_mask_flags(out, &v.scalability_mask_flag, vps_max_layers_minus1)?;
+    out.u8_if(views, "dimension_id_len_minus1", 3, v.dimension_id_len_minus1)?;
+    out.flag("vps_nuh_layer_id_present_flag", v.vps_nuh_layer_id_present_flag)?;
+    print_vps_layers(out, &v.layers, vps_max_layers_minus1, coded, width)?;
+    out.u8("view_id_len", 4, v.view_id_len)?;
+    print_view_id_vals_if(
         out,
         v.view_id_len > 0,
         &v.view_id_val,
         vps_max_layers_minus1,
         v.view_id_len,
-    )
+    )?;
+    Ok(())
 }

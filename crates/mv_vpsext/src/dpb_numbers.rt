@@ -1,15 +1,13 @@
 //! The numbers of dpb_size for one sub-layer of an output layer set (F.7.3.2.1.3).
 
 ghost use Rattle.std.specs.Prelude.{◌≡◌, false, get_or, length, OnOk};
-ghost use Rattle.mv_syntax.specs.Table.{when, Valid, read, put};
-ghost use Rattle.mv_syntax.specs.Answers.{Fills};
-ghost use Rattle.mv_vpsext.specs.Faults.{means};
+ghost use Rattle.mv_syntax.specs.Table.{when, Valid};
+ghost use Rattle.mv_syntax.specs.Printed.{printed};
+ghost use Rattle.mv_fields.specs.Reading.{ReadsBy, ReadsAs};
 ghost use Rattle.mv_vpsext.specs.DpbSizes.{buffering, bufferings, dpb_numbers};
 
-use crate::fault::ExtFault;
-use crate::fields::ue_within;
-use mv_bits::{BitReader, BitWriter};
-use mv_fields::{put_ue, put_ue_if, ue_if};
+use mv_bits::BitReader;
+use mv_fields::{Fault, Printer, ue_if, ue_within};
 use mv_rules::Rule;
 use std::alloc::{AllocError, Global};
 use std::marker::Model;
@@ -46,8 +44,8 @@ fn holds_at(conditions: &[bool], k: usize) -> bool
 }
 
 #[tactic(auto, unfolding(crate::specs::DpbSizes::buffering))]
-fn buffering_of(bits: &mut BitReader, necessary: &[bool], k: usize) -> Result<Option<u32>, ExtFault>
-    ensures { Fills (λ v. v) means bits.old bits.new result (read (buffering necessary.now k) bits.old.left) }
+fn buffering_of(bits: &mut BitReader, necessary: &[bool], k: usize) -> Result<Option<u32>, Fault<Rule>>
+    ensures { ReadsBy (buffering necessary.now k) bits.old bits.new result }
 {
     Ok(ue_if(bits, holds_at(necessary, k))?)
 }
@@ -57,8 +55,8 @@ fn bufferings_of(
     alloc: Global,
     bits: &mut BitReader,
     necessary: &[bool],
-) -> Result<Vec<Option<u32>>, ExtFault>
-    ensures { Fills (λ v. v.items) means bits.old bits.new result (read (bufferings necessary.now) bits.old.left) }
+) -> Result<Vec<Option<u32>>, Fault<Rule>>
+    ensures { ReadsAs (λ v. v.items) (bufferings necessary.now) bits.old bits.new result }
 {
     let end = necessary.len();
     let mut all = Vec::new(alloc);
@@ -73,8 +71,8 @@ fn dpb_numbers_of(
     alloc: Global,
     bits: &mut BitReader,
     necessary: &[bool],
-) -> Result<DpbNumbers, ExtFault>
-    ensures { Fills (λ v. v) means bits.old bits.new result (read (dpb_numbers necessary.now) bits.old.left) }
+) -> Result<DpbNumbers, Fault<Rule>>
+    ensures { ReadsBy (dpb_numbers necessary.now) bits.old bits.new result }
 {
     let max_vps_dec_pic_buffering_minus1 = bufferings_of(alloc, bits, necessary)?;
     let max_vps_num_reorder_pics = ue_within(bits, Rule::VpsLimit, 15)?;
@@ -91,8 +89,8 @@ pub(crate) fn dpb_numbers_if(
     bits: &mut BitReader,
     present: bool,
     necessary: &[bool],
-) -> Result<Option<DpbNumbers>, ExtFault>
-    ensures { Fills (λ v. v) means bits.old bits.new result (read (when present (dpb_numbers necessary.now)) bits.old.left) }
+) -> Result<Option<DpbNumbers>, Fault<Rule>>
+    ensures { ReadsBy (when present (dpb_numbers necessary.now)) bits.old bits.new result }
 {
     if !present {
         return Ok(None);
@@ -101,58 +99,61 @@ pub(crate) fn dpb_numbers_if(
 }
 
 #[tactic(auto, unfolding(crate::specs::DpbSizes::buffering))]
-fn put_buffering(
-    out: &mut BitWriter,
+fn print_buffering(
+    out: &mut Printer,
     necessary: &[bool],
     k: usize,
     field: Option<u32>,
 ) -> Result<(), AllocError>
     requires { Valid (buffering necessary.now k) field }
-    ensures { OnOk result (out.new ≡ put (buffering necessary.now k) field out.old) }
+    ensures { OnOk result (out.new ≡ printed (buffering necessary.now k) field out.old) }
 {
-    put_ue_if(out, holds_at(necessary, k), field)
+    out.ue_if(holds_at(necessary, k), "max_vps_dec_pic_buffering_minus1", field)
 }
 
-#[tactic(auto, using(mv_syntax::proofs::LoopLaws::put_item_steps), unfolding(crate::specs::DpbSizes::bufferings))]
-fn put_bufferings(
-    out: &mut BitWriter,
+#[tactic(auto, using(mv_syntax::proofs::PrintingLoops::print_item_steps), unfolding(crate::specs::DpbSizes::bufferings))]
+fn print_bufferings(
+    out: &mut Printer,
     all: &[Option<u32>],
     necessary: &[bool],
 ) -> Result<(), AllocError>
     requires { Valid (bufferings necessary.now) all.now }
-    ensures { OnOk result (out.new ≡ put (bufferings necessary.now) all.now out.old) }
+    ensures { OnOk result (out.new ≡ printed (bufferings necessary.now) all.now out.old) }
 {
     for k in 0..all.len() {
-        put_buffering(out, necessary, k, all[k])?;
+        let outer = out.open(k as u64)?;
+        print_buffering(out, necessary, k, all[k])?;
+        out.close(outer);
     }
     Ok(())
 }
 
 #[tactic(auto, unfolding(crate::specs::DpbSizes::dpb_numbers))]
-fn put_dpb_numbers(
-    out: &mut BitWriter,
+fn print_dpb_numbers(
+    out: &mut Printer,
     v: &DpbNumbers,
     necessary: &[bool],
 ) -> Result<(), AllocError>
     requires { Valid (dpb_numbers necessary.now) v.now }
-    ensures { OnOk result (out.new ≡ put (dpb_numbers necessary.now) v.now out.old) }
+    ensures { OnOk result (out.new ≡ printed (dpb_numbers necessary.now) v.now out.old) }
 {
-    put_bufferings(out, &v.max_vps_dec_pic_buffering_minus1, necessary)?;
-    put_ue(out, v.max_vps_num_reorder_pics)?;
-    put_ue(out, v.max_vps_latency_increase_plus1)
+    print_bufferings(out, &v.max_vps_dec_pic_buffering_minus1, necessary)?;
+    out.ue("max_vps_num_reorder_pics", v.max_vps_num_reorder_pics)?;
+    out.ue("max_vps_latency_increase_plus1", v.max_vps_latency_increase_plus1)?;
+    Ok(())
 }
 
-pub(crate) fn put_dpb_numbers_if(
-    out: &mut BitWriter,
+pub(crate) fn print_dpb_numbers_if(
+    out: &mut Printer,
     present: bool,
     v: &Option<DpbNumbers>,
     necessary: &[bool],
 ) -> Result<(), AllocError>
     requires { Valid (when present (dpb_numbers necessary.now)) v.now }
-    ensures { OnOk result (out.new ≡ put (when present (dpb_numbers necessary.now)) v.now out.old) }
+    ensures { OnOk result (out.new ≡ printed (when present (dpb_numbers necessary.now)) v.now out.old) }
 {
     match v {
-        Some(v) => put_dpb_numbers(out, v, necessary),
+        Some(v) => print_dpb_numbers(out, v, necessary),
         None => Ok(()),
     }
 }

@@ -1,15 +1,15 @@
 //! dpb_size (F.7.3.2.1.3): what a decoder has to hold for each output layer set.
 
 ghost use Rattle.std.specs.Prelude.{◌≡◌, ℕ, ◌-◌, ◌≤◌, ◌<◌, length, get_or, OnOk};
-ghost use Rattle.mv_syntax.specs.Table.{when, Valid, read, put};
-ghost use Rattle.mv_syntax.specs.Answers.{Fills};
-ghost use Rattle.mv_vpsext.specs.Faults.{means};
+ghost use Rattle.mv_syntax.specs.Table.{when, Valid};
+ghost use Rattle.mv_syntax.specs.Printed.{printed};
+ghost use Rattle.mv_fields.specs.Reading.{ReadsBy, ReadsAs};
 ghost use Rattle.mv_vpsext.specs.DpbSizes.{no_layers, dpb_sub_layer, dpb_sub_layers, dpb_set, dpb_of_set, dpb_size};
 
-use crate::dpb_numbers::{DpbNumbers, dpb_numbers_if, put_dpb_numbers_if};
-use crate::fault::ExtFault;
-use mv_bits::{BitReader, BitWriter};
-use mv_fields::{coded_set, put_u8, put_u8_if, u8_if, u8_of};
+use crate::dpb_numbers::{DpbNumbers, dpb_numbers_if, print_dpb_numbers_if};
+use mv_bits::BitReader;
+use mv_fields::{Fault, Printer, coded_set, u8_if, u8_of};
+use mv_rules::Rule;
 use std::alloc::{AllocError, Global};
 use std::marker::Model;
 
@@ -73,8 +73,8 @@ fn dpb_sub_layer_of(
     necessary: &[bool],
     sub_layer_flag_info_present_flag: u8,
     j: u8,
-) -> Result<DpbSubLayer, ExtFault>
-    ensures { Fills (λ v. v) means bits.old bits.new result (read (dpb_sub_layer necessary.now sub_layer_flag_info_present_flag j) bits.old.left) }
+) -> Result<DpbSubLayer, Fault<Rule>>
+    ensures { ReadsBy (dpb_sub_layer necessary.now sub_layer_flag_info_present_flag j) bits.old bits.new result }
 {
     let asked = j > 0 && sub_layer_flag_info_present_flag == 1;
     let sub_layer_dpb_info_present_flag = u8_if(bits, asked, 1)?;
@@ -92,9 +92,9 @@ fn dpb_sub_layers_of(
     bits: &mut BitReader,
     set: &SetLayers,
     sub_layer_flag_info_present_flag: u8,
-) -> Result<Vec<DpbSubLayer>, ExtFault>
+) -> Result<Vec<DpbSubLayer>, Fault<Rule>>
     requires { set.now.greatest ≤ 6 }
-    ensures { Fills (λ v. v.items) means bits.old bits.new result (read (dpb_sub_layers set.now sub_layer_flag_info_present_flag) bits.old.left) }
+    ensures { ReadsAs (λ v. v.items) (dpb_sub_layers set.now sub_layer_flag_info_present_flag) bits.old bits.new result }
 {
     let end = set.greatest + 1;
     let flag = sub_layer_flag_info_present_flag;
@@ -106,9 +106,9 @@ fn dpb_sub_layers_of(
 }
 
 #[tactic(auto, unfolding(crate::specs::DpbSizes::dpb_set))]
-fn dpb_set_of(alloc: Global, bits: &mut BitReader, set: &SetLayers) -> Result<DpbSizes, ExtFault>
+fn dpb_set_of(alloc: Global, bits: &mut BitReader, set: &SetLayers) -> Result<DpbSizes, Fault<Rule>>
     requires { set.now.greatest ≤ 6 }
-    ensures { Fills (λ v. v) means bits.old bits.new result (read (dpb_set set.now) bits.old.left) }
+    ensures { ReadsBy (dpb_set set.now) bits.old bits.new result }
 {
     let sub_layer_flag_info_present_flag = u8_of(bits, 1)?;
     let sub_layers = dpb_sub_layers_of(alloc, bits, set, sub_layer_flag_info_present_flag)?;
@@ -119,46 +119,50 @@ fn dpb_set_of(alloc: Global, bits: &mut BitReader, set: &SetLayers) -> Result<Dp
 }
 
 #[tactic(auto, unfolding(crate::specs::DpbSizes::dpb_sub_layer))]
-fn put_dpb_sub_layer(
-    out: &mut BitWriter,
+fn print_dpb_sub_layer(
+    out: &mut Printer,
     v: &DpbSubLayer,
     necessary: &[bool],
     sub_layer_flag_info_present_flag: u8,
     j: usize,
 ) -> Result<(), AllocError>
     requires { Valid (dpb_sub_layer necessary.now sub_layer_flag_info_present_flag j) v.now }
-    ensures { OnOk result (out.new ≡ put (dpb_sub_layer necessary.now sub_layer_flag_info_present_flag j) v.now out.old) }
+    ensures { OnOk result (out.new ≡ printed (dpb_sub_layer necessary.now sub_layer_flag_info_present_flag j) v.now out.old) }
 {
     let asked = j > 0 && sub_layer_flag_info_present_flag == 1;
     let present = j == 0 || coded_set(v.sub_layer_dpb_info_present_flag);
-    put_u8_if(out, asked, 1, v.sub_layer_dpb_info_present_flag)?;
-    put_dpb_numbers_if(out, present, &v.numbers, necessary)
+    out.flag_if(asked, "sub_layer_dpb_info_present_flag", v.sub_layer_dpb_info_present_flag)?;
+    print_dpb_numbers_if(out, present, &v.numbers, necessary)?;
+    Ok(())
 }
 
-#[tactic(auto, using(mv_syntax::proofs::LoopLaws::put_item_steps), unfolding(crate::specs::DpbSizes::dpb_sub_layers))]
-fn put_dpb_sub_layers(
-    out: &mut BitWriter,
+#[tactic(auto, using(mv_syntax::proofs::PrintingLoops::print_item_steps), unfolding(crate::specs::DpbSizes::dpb_sub_layers))]
+fn print_dpb_sub_layers(
+    out: &mut Printer,
     all: &[DpbSubLayer],
     set: &SetLayers,
     sub_layer_flag_info_present_flag: u8,
 ) -> Result<(), AllocError>
     requires { Valid (dpb_sub_layers set.now sub_layer_flag_info_present_flag) all.now }
-    ensures { OnOk result (out.new ≡ put (dpb_sub_layers set.now sub_layer_flag_info_present_flag) all.now out.old) }
+    ensures { OnOk result (out.new ≡ printed (dpb_sub_layers set.now sub_layer_flag_info_present_flag) all.now out.old) }
 {
     let flag = sub_layer_flag_info_present_flag;
     for j in 0..all.len() {
-        put_dpb_sub_layer(out, &all[j], &set.necessary, flag, j)?;
+        let outer = out.open(j as u64)?;
+        print_dpb_sub_layer(out, &all[j], &set.necessary, flag, j)?;
+        out.close(outer);
     }
     Ok(())
 }
 
 #[tactic(auto, unfolding(crate::specs::DpbSizes::dpb_set))]
-fn put_dpb_set(out: &mut BitWriter, v: &DpbSizes, set: &SetLayers) -> Result<(), AllocError>
+fn print_dpb_set(out: &mut Printer, v: &DpbSizes, set: &SetLayers) -> Result<(), AllocError>
     requires { Valid (dpb_set set.now) v.now }
-    ensures { OnOk result (out.new ≡ put (dpb_set set.now) v.now out.old) }
+    ensures { OnOk result (out.new ≡ printed (dpb_set set.now) v.now out.old) }
 {
-    put_u8(out, 1, v.sub_layer_flag_info_present_flag)?;
-    put_dpb_sub_layers(out, &v.sub_layers, set, v.sub_layer_flag_info_present_flag)
+    out.flag("sub_layer_flag_info_present_flag", v.sub_layer_flag_info_present_flag)?;
+    print_dpb_sub_layers(out, &v.sub_layers, set, v.sub_layer_flag_info_present_flag)?;
+    Ok(())
 }
 
 #[tactic(auto, unfolding(crate::specs::DpbSizes::dpb_of_set))]
@@ -167,10 +171,10 @@ fn dpb_of_set_at(
     bits: &mut BitReader,
     sets: &[SetLayers],
     i: usize,
-) -> Result<DpbSizes, ExtFault>
+) -> Result<DpbSizes, Fault<Rule>>
     requires within { i < length sets.now }
     requires few { (k : ℕ) → (get_or sets.now k no_layers).greatest ≤ 6 }
-    ensures { Fills (λ v. v) means bits.old bits.new result (read (dpb_of_set sets.now i) bits.old.left) }
+    ensures { ReadsBy (dpb_of_set sets.now i) bits.old bits.new result }
 {
     dpb_set_of(alloc, bits, &sets[i])
 }
@@ -180,10 +184,10 @@ pub(crate) fn dpb_size_of(
     alloc: Global,
     bits: &mut BitReader,
     sets: &[SetLayers],
-) -> Result<Vec<DpbSizes>, ExtFault>
+) -> Result<Vec<DpbSizes>, Fault<Rule>>
     requires some { 1 ≤ length sets.now }
     requires few { (k : ℕ) → (get_or sets.now k no_layers).greatest ≤ 6 }
-    ensures { Fills (λ v. v.items) means bits.old bits.new result (read (dpb_size sets.now) bits.old.left) }
+    ensures { ReadsAs (λ v. v.items) (dpb_size sets.now) bits.old bits.new result }
 {
     let end = sets.len();
     let mut all = Vec::new(alloc);
@@ -194,31 +198,33 @@ pub(crate) fn dpb_size_of(
 }
 
 #[tactic(auto, unfolding(crate::specs::DpbSizes::dpb_of_set))]
-fn put_dpb_of_set(
-    out: &mut BitWriter,
+fn print_dpb_of_set(
+    out: &mut Printer,
     v: &DpbSizes,
     sets: &[SetLayers],
     i: usize,
 ) -> Result<(), AllocError>
     requires within { i < length sets.now }
     requires valid { Valid (dpb_of_set sets.now i) v.now }
-    ensures { OnOk result (out.new ≡ put (dpb_of_set sets.now i) v.now out.old) }
+    ensures { OnOk result (out.new ≡ printed (dpb_of_set sets.now i) v.now out.old) }
 {
-    put_dpb_set(out, v, &sets[i])
+    print_dpb_set(out, v, &sets[i])
 }
 
-#[tactic(auto, using(mv_syntax::proofs::LoopLaws::put_item_steps), unfolding(crate::specs::DpbSizes::dpb_size))]
-pub(crate) fn put_dpb_size(
-    out: &mut BitWriter,
+#[tactic(auto, using(mv_syntax::proofs::PrintingLoops::print_item_steps), unfolding(crate::specs::DpbSizes::dpb_size))]
+pub(crate) fn print_dpb_size(
+    out: &mut Printer,
     all: &[DpbSizes],
     sets: &[SetLayers],
 ) -> Result<(), AllocError>
     requires some { 1 ≤ length sets.now }
     requires valid { Valid (dpb_size sets.now) all.now }
-    ensures { OnOk result (out.new ≡ put (dpb_size sets.now) all.now out.old) }
+    ensures { OnOk result (out.new ≡ printed (dpb_size sets.now) all.now out.old) }
 {
     for k in 0..all.len() {
-        put_dpb_of_set(out, &all[k], sets, k + 1)?;
+        let outer = out.open(k as u64 + 1)?;
+        print_dpb_of_set(out, &all[k], sets, k + 1)?;
+        out.close(outer);
     }
     Ok(())
 }

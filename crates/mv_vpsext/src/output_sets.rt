@@ -1,20 +1,18 @@
 //! The fourth part of vps_extension (F.7.3.2.1.1): the output layer sets.
 
 ghost use Rattle.std.specs.Prelude.{◌≡◌, ℕ, ◌+◌, ◌-◌, ◌≤◌, [], ◌∷◌, get_or, length, IfOk, OnOk, option_map};
-ghost use Rattle.mv_syntax.specs.Table.{u, ue, when, Valid, read, put};
+ghost use Rattle.mv_syntax.specs.Table.{u, ue, named, when, Valid};
+ghost use Rattle.mv_syntax.specs.Printed.{printed};
 ghost use Rattle.mv_syntax.specs.Words.{◌!◌∶◌, over, is, or_zero};
-ghost use Rattle.mv_syntax.specs.Answers.{Fills};
-ghost use Rattle.mv_vpsext.specs.Faults.{means};
+ghost use Rattle.mv_fields.specs.Reading.{ReadsBy, ReadsAs};
 ghost use Rattle.mv_fields.specs.Widths.{clog2};
 ghost use Rattle.mv_vpsext.specs.Sets.{base_set, coded_set, coded_sets, all_sets};
-ghost use Rattle.mv_vpsext.specs.OutputSets.{output_layer_flag, output_layer_flags, profile_tier_level_idx, profile_tier_level_idxs, set_profiles, output_layer_set, output_layer_sets, past_output_sets, output_sets};
+ghost use Rattle.mv_vpsext.specs.OutputSets.{profile_tier_level_idx, profile_tier_level_idxs, set_profiles, output_layer_set, output_layer_sets, past_output_sets, output_sets};
 ghost use Rattle.mv_rules.specs.declared.rule.Rule.TheVariants.{ReservedOutput, VpsLimit};
 
-use crate::fault::ExtFault;
-use crate::fields::{u8_within, unset_flag_if};
 use crate::sets::{has_one_output, is_necessary_at, number_of_layers, one_set};
-use mv_bits::{BitReader, BitWriter};
-use mv_fields::{clog2, coded_set, or_zero, put_u8, put_u8_if, put_ue_if, u8_if, u8_of};
+use mv_bits::BitReader;
+use mv_fields::{Fault, Printer, clog2, u8_if, u8_of, u8_within, u8s_if, unset_flag_if};
 use mv_layers::{LayerInfo, LayerSet, OlsLayers, ols_layers, ols_of, ols_outputs};
 use mv_rules::Rule;
 use std::alloc::{AllocError, Global};
@@ -66,89 +64,15 @@ impl Model for VpsOutputSets {
     } };
 }
 
-#[tactic(auto, unfolding(crate::specs::OutputSets::output_layer_flag))]
-fn output_layer_flag_of(bits: &mut BitReader, j: usize) -> Result<u8, ExtFault>
-    ensures { Fills (λ v. v) means bits.old bits.new result (read (output_layer_flag j) bits.old.left) }
-{
-    Ok(u8_of(bits, 1)?)
-}
-
-#[tactic(auto, using(mv_syntax::proofs::LoopLaws::item_steps), unfolding(crate::specs::OutputSets::output_layer_flags))]
-fn output_layer_flags_of(
-    alloc: Global,
-    bits: &mut BitReader,
-    num_layers: usize,
-) -> Result<Vec<u8>, ExtFault>
-    ensures { Fills (λ v. v.items) means bits.old bits.new result (read (output_layer_flags num_layers) bits.old.left) }
-{
-    let mut all = Vec::new(alloc);
-    for j in 0..num_layers {
-        all.push(output_layer_flag_of(bits, j)?)?;
-    }
-    Ok(all)
-}
-
-pub(crate) fn output_layer_flags_if(
-    alloc: Global,
-    bits: &mut BitReader,
-    present: bool,
-    num_layers: usize,
-) -> Result<Option<Vec<u8>>, ExtFault>
-    ensures { Fills (λ o. option_map (λ v. v.items) o) means bits.old bits.new result (read (when present (output_layer_flags num_layers)) bits.old.left) }
-{
-    if !present {
-        return Ok(None);
-    }
-    Ok(Some(output_layer_flags_of(alloc, bits, num_layers)?))
-}
-
-#[tactic(auto, unfolding(crate::specs::OutputSets::output_layer_flag))]
-fn put_output_layer_flag(out: &mut BitWriter, j: usize, field: u8) -> Result<(), AllocError>
-    requires { Valid (output_layer_flag j) field }
-    ensures { OnOk result (out.new ≡ put (output_layer_flag j) field out.old) }
-{
-    put_u8(out, 1, field)
-}
-
-#[tactic(auto, using(mv_syntax::proofs::LoopLaws::put_item_steps), unfolding(crate::specs::OutputSets::output_layer_flags))]
-fn put_output_layer_flags(
-    out: &mut BitWriter,
-    all: &[u8],
-    num_layers: usize,
-) -> Result<(), AllocError>
-    requires { Valid (output_layer_flags num_layers) all.now }
-    ensures { OnOk result (out.new ≡ put (output_layer_flags num_layers) all.now out.old) }
-{
-    for j in 0..all.len() {
-        put_output_layer_flag(out, j, all[j])?;
-    }
-    Ok(())
-}
-
-pub(crate) fn put_output_layer_flags_if(
-    out: &mut BitWriter,
-    present: bool,
-    all: &Option<Vec<u8>>,
-    num_layers: usize,
-) -> Result<(), AllocError>
-    requires { Valid (when present (output_layer_flags num_layers)) (option_map (λ v. v.items) all.now) }
-    ensures { OnOk result (out.new ≡ put (when present (output_layer_flags num_layers)) (option_map (λ v. v.items) all.now) out.old) }
-{
-    match all {
-        Some(all) => put_output_layer_flags(out, all, num_layers),
-        None => Ok(()),
-    }
-}
-
 // The next field layer_set_idx_for_ols_minus1, with so many layer sets, where it is present.
 fn layer_set_idx_if(
     bits: &mut BitReader,
     present: bool,
     num_layer_sets: usize,
-) -> Result<Option<u8>, ExtFault>
+) -> Result<Option<u8>, Fault<Rule>>
     requires few { num_layer_sets ≤ 64 }
     requires some { 1 ≤ num_layer_sets }
-    ensures { Fills (λ v. v) means bits.old bits.new result (read (when present (u (clog2 (num_layer_sets - 1)) ! VpsLimit ∶ over (num_layer_sets - 2))) bits.old.left) }
+    ensures { ReadsBy (when present (u (clog2 (num_layer_sets - 1)) ! VpsLimit ∶ over (num_layer_sets - 2))) bits.old bits.new result }
 {
     if !present {
         return Ok(None);
@@ -164,9 +88,9 @@ fn profile_tier_level_idx_of(
     vps_num_profile_tier_level_minus1: u32,
     set: &OlsLayers,
     j: usize,
-) -> Result<Option<u8>, ExtFault>
+) -> Result<Option<u8>, Fault<Rule>>
     requires { vps_num_profile_tier_level_minus1 ≤ 63 }
-    ensures { Fills (λ v. v) means bits.old bits.new result (read (profile_tier_level_idx vps_num_profile_tier_level_minus1 set.now j) bits.old.left) }
+    ensures { ReadsBy (profile_tier_level_idx vps_num_profile_tier_level_minus1 set.now j) bits.old bits.new result }
 {
     let necessary = is_necessary_at(set, j);
     let width = clog2(vps_num_profile_tier_level_minus1 + 1, 8);
@@ -183,9 +107,9 @@ fn profile_tier_level_idxs_of(
     bits: &mut BitReader,
     vps_num_profile_tier_level_minus1: u32,
     set: &OlsLayers,
-) -> Result<Vec<Option<u8>>, ExtFault>
+) -> Result<Vec<Option<u8>>, Fault<Rule>>
     requires { vps_num_profile_tier_level_minus1 ≤ 63 }
-    ensures { Fills (λ v. v.items) means bits.old bits.new result (read (profile_tier_level_idxs vps_num_profile_tier_level_minus1 set.now) bits.old.left) }
+    ensures { ReadsAs (λ v. v.items) (profile_tier_level_idxs vps_num_profile_tier_level_minus1 set.now) bits.old bits.new result }
 {
     let profiles = vps_num_profile_tier_level_minus1;
     let end = number_of_layers(set);
@@ -204,9 +128,9 @@ fn set_profiles_of(
     infos: &[LayerInfo],
     vps_num_profile_tier_level_minus1: u32,
     set: &OlsLayers,
-) -> Result<(Vec<Option<u8>>, Option<u8>), ExtFault>
+) -> Result<(Vec<Option<u8>>, Option<u8>), Fault<Rule>>
     requires { vps_num_profile_tier_level_minus1 ≤ 63 }
-    ensures { Fills (λ v. (v.0.items, v.1)) means bits.old bits.new result (read (set_profiles infos.now vps_num_profile_tier_level_minus1 set.now) bits.old.left) }
+    ensures { ReadsAs (λ v. (v.0.items, v.1)) (set_profiles infos.now vps_num_profile_tier_level_minus1 set.now) bits.old bits.new result }
 {
     let alternative = has_one_output(infos, set);
     let idxs = profile_tier_level_idxs_of(alloc, bits, vps_num_profile_tier_level_minus1, set)?;
@@ -224,11 +148,11 @@ fn output_layer_set_of(
     vps_num_profile_tier_level_minus1: u32,
     idc: u8,
     i: usize,
-) -> Result<(OutputLayerSet, OlsLayers), ExtFault>
+) -> Result<(OutputLayerSet, OlsLayers), Fault<Rule>>
     requires few { length sets.now ≤ 63 }
     requires ids { (k : ℕ) → length (get_or sets.now k []) ≤ 63 }
     requires profiles { vps_num_profile_tier_level_minus1 ≤ 63 }
-    ensures reads { Fills (λ v. v.0) means bits.old bits.new result (read (output_layer_set infos.now sets.now vps_num_profile_tier_level_minus1 idc i) bits.old.left) }
+    ensures reads { ReadsAs (λ v. v.0) (output_layer_set infos.now sets.now vps_num_profile_tier_level_minus1 idc i) bits.old bits.new result }
     ensures layers { IfOk result (λ v. v.1 ≡ coded_set infos.now sets.now idc i v.0) }
 {
     let num_layer_sets = sets.len() + 1;
@@ -236,7 +160,7 @@ fn output_layer_set_of(
     let layer_set_idx_for_ols_minus1 = layer_set_idx_if(bits, own, num_layer_sets)?;
     let layers = ols_layers(alloc, sets, i, layer_set_idx_for_ols_minus1)?;
     let flagged = num_layer_sets <= i || idc == 2;
-    let output_layer_flag = output_layer_flags_if(alloc, bits, flagged, layers.len())?;
+    let output_layer_flag = u8s_if(alloc, bits, flagged, layers.len() as u32, 1)?;
     let outputs = ols_outputs(alloc, &layers, &output_layer_flag, idc)?;
     let set = ols_of(alloc, infos, layers, outputs)?;
     let (profile_tier_level_idx, alt_output_layer_flag) = set_profiles_of(
@@ -265,11 +189,11 @@ fn output_layer_sets_of(
     vps_num_profile_tier_level_minus1: u32,
     num_add_olss: u32,
     idc: u8,
-) -> Result<(Vec<OutputLayerSet>, Vec<OlsLayers>), ExtFault>
+) -> Result<(Vec<OutputLayerSet>, Vec<OlsLayers>), Fault<Rule>>
     requires few { length sets.now + num_add_olss ≤ 63 }
     requires ids { (k : ℕ) → length (get_or sets.now k []) ≤ 63 }
     requires profiles { vps_num_profile_tier_level_minus1 ≤ 63 }
-    ensures reads { Fills (λ v. v.0.items) means bits.old bits.new result (read (output_layer_sets infos.now sets.now vps_num_profile_tier_level_minus1 num_add_olss idc) bits.old.left) }
+    ensures reads { ReadsAs (λ v. v.0.items) (output_layer_sets infos.now sets.now vps_num_profile_tier_level_minus1 num_add_olss idc) bits.old bits.new result }
     ensures layers { IfOk result (λ v. v.1.items ≡ base_set infos.now ∷ coded_sets infos.now sets.now idc v.0.items) }
 {
     let profiles = vps_num_profile_tier_level_minus1;
@@ -292,8 +216,8 @@ fn past_output_sets(num_layer_sets: usize, num_add_olss: u32) -> bool
 }
 
 // The next field num_add_olss, with so many layer sets; it isn't coded with one.
-fn num_add_olss_of(bits: &mut BitReader, num_layer_sets: usize) -> Result<Option<u32>, ExtFault>
-    ensures reads { Fills (λ v. v) means bits.old bits.new result (read (when (over 1 num_layer_sets) (ue ! VpsLimit ∶ past_output_sets num_layer_sets)) bits.old.left) }
+fn num_add_olss_of(bits: &mut BitReader, num_layer_sets: usize) -> Result<Option<u32>, Fault<Rule>>
+    ensures reads { ReadsBy (when (over 1 num_layer_sets) (ue ! VpsLimit ∶ past_output_sets num_layer_sets)) bits.old bits.new result }
     ensures within { IfOk result (λ v. num_layer_sets + or_zero v ≤ 64) }
 {
     if num_layer_sets <= 1 {
@@ -301,21 +225,21 @@ fn num_add_olss_of(bits: &mut BitReader, num_layer_sets: usize) -> Result<Option
     }
     let num_add_olss = bits.ue()?;
     if past_output_sets(num_layer_sets, num_add_olss) {
-        return Err(ExtFault::Breaks(Rule::VpsLimit));
+        return Err(Fault::Breaks(Rule::VpsLimit));
     }
     Ok(Some(num_add_olss))
 }
 
 // The next field default_output_layer_idc, where it is present.
-fn default_output_layer_idc_if(bits: &mut BitReader, present: bool) -> Result<Option<u8>, ExtFault>
-    ensures { Fills (λ v. v) means bits.old bits.new result (read (when present (u 2 ! ReservedOutput ∶ is 3)) bits.old.left) }
+fn default_output_layer_idc_if(bits: &mut BitReader, present: bool) -> Result<Option<u8>, Fault<Rule>>
+    ensures { ReadsBy (when present (u 2 ! ReservedOutput ∶ is 3)) bits.old bits.new result }
 {
     if !present {
         return Ok(None);
     }
     let idc = u8_of(bits, 2)?;
     if idc == 3 {
-        return Err(ExtFault::Breaks(Rule::ReservedOutput));
+        return Err(Fault::Breaks(Rule::ReservedOutput));
     }
     Ok(Some(idc))
 }
@@ -328,10 +252,10 @@ pub(crate) fn output_sets_of(
     infos: &[LayerInfo],
     sets: &[LayerSet],
     vps_num_profile_tier_level_minus1: u32,
-) -> Result<(VpsOutputSets, Vec<OlsLayers>), ExtFault>
+) -> Result<(VpsOutputSets, Vec<OlsLayers>), Fault<Rule>>
     requires ids { (k : ℕ) → length (get_or sets.now k []) ≤ 63 }
     requires profiles { vps_num_profile_tier_level_minus1 ≤ 63 }
-    ensures reads { Fills (λ v. v.0) means bits.old bits.new result (read (output_sets infos.now sets.now vps_num_profile_tier_level_minus1) bits.old.left) }
+    ensures reads { ReadsAs (λ v. v.0) (output_sets infos.now sets.now vps_num_profile_tier_level_minus1) bits.old bits.new result }
     ensures layers { IfOk result (λ v. v.1.items ≡ all_sets infos.now sets.now v.0) }
 {
     let several = sets.len() > 0;
@@ -354,9 +278,55 @@ pub(crate) fn output_sets_of(
     Ok((coded, layers))
 }
 
+fn print_layer_set_idx_if(
+    out: &mut Printer,
+    present: bool,
+    field: Option<u8>,
+    num_layer_sets: usize,
+) -> Result<(), AllocError>
+    requires few { num_layer_sets ≤ 64 }
+    requires some { 1 ≤ num_layer_sets }
+    requires valid { Valid (named "layer_set_idx_for_ols_minus1" (when present (u (clog2 (num_layer_sets - 1)) ! VpsLimit ∶ over (num_layer_sets - 2)))) field }
+    ensures { OnOk result (out.new ≡ printed (named "layer_set_idx_for_ols_minus1" (when present (u (clog2 (num_layer_sets - 1)) ! VpsLimit ∶ over (num_layer_sets - 2)))) field out.old) }
+{
+    let width = clog2((num_layer_sets - 1) as u32, 8);
+    match field {
+        Some(field) => out.u8("layer_set_idx_for_ols_minus1", width, field),
+        None => Ok(()),
+    }
+}
+
+fn print_num_add_olss(
+    out: &mut Printer,
+    field: Option<u32>,
+    num_layer_sets: usize,
+) -> Result<(), AllocError>
+    requires { Valid (named "num_add_olss" (when (over 1 num_layer_sets) (ue ! VpsLimit ∶ past_output_sets num_layer_sets))) field }
+    ensures { OnOk result (out.new ≡ printed (named "num_add_olss" (when (over 1 num_layer_sets) (ue ! VpsLimit ∶ past_output_sets num_layer_sets))) field out.old) }
+{
+    match field {
+        Some(field) => out.ue("num_add_olss", field),
+        None => Ok(()),
+    }
+}
+
+fn print_default_output_layer_idc_if(
+    out: &mut Printer,
+    present: bool,
+    field: Option<u8>,
+) -> Result<(), AllocError>
+    requires { Valid (named "default_output_layer_idc" (when present (u 2 ! ReservedOutput ∶ is 3))) field }
+    ensures { OnOk result (out.new ≡ printed (named "default_output_layer_idc" (when present (u 2 ! ReservedOutput ∶ is 3))) field out.old) }
+{
+    match field {
+        Some(field) => out.u8("default_output_layer_idc", 2, field),
+        None => Ok(()),
+    }
+}
+
 #[tactic(auto, unfolding(crate::specs::OutputSets::profile_tier_level_idx))]
-fn put_profile_tier_level_idx(
-    out: &mut BitWriter,
+fn print_profile_tier_level_idx(
+    out: &mut Printer,
     field: Option<u8>,
     vps_num_profile_tier_level_minus1: u32,
     set: &OlsLayers,
@@ -364,40 +334,37 @@ fn put_profile_tier_level_idx(
 ) -> Result<(), AllocError>
     requires profiles { vps_num_profile_tier_level_minus1 ≤ 63 }
     requires valid { Valid (profile_tier_level_idx vps_num_profile_tier_level_minus1 set.now j) field }
-    ensures { OnOk result (out.new ≡ put (profile_tier_level_idx vps_num_profile_tier_level_minus1 set.now j) field out.old) }
+    ensures { OnOk result (out.new ≡ printed (profile_tier_level_idx vps_num_profile_tier_level_minus1 set.now j) field out.old) }
 {
     let necessary = is_necessary_at(set, j);
     let width = clog2(vps_num_profile_tier_level_minus1 + 1, 8);
-    put_u8_if(
-        out,
-        necessary && vps_num_profile_tier_level_minus1 > 0,
-        width,
-        field,
-    )
+    out.u8_if(necessary && vps_num_profile_tier_level_minus1 > 0, "profile_tier_level_idx", width, field)
 }
 
-#[tactic(auto, using(mv_syntax::proofs::LoopLaws::put_item_steps), unfolding(crate::specs::OutputSets::profile_tier_level_idxs))]
-fn put_profile_tier_level_idxs(
-    out: &mut BitWriter,
+#[tactic(auto, using(mv_syntax::proofs::PrintingLoops::print_item_steps), unfolding(crate::specs::OutputSets::profile_tier_level_idxs))]
+fn print_profile_tier_level_idxs(
+    out: &mut Printer,
     all: &[Option<u8>],
     vps_num_profile_tier_level_minus1: u32,
     set: &OlsLayers,
 ) -> Result<(), AllocError>
     requires profiles { vps_num_profile_tier_level_minus1 ≤ 63 }
     requires valid { Valid (profile_tier_level_idxs vps_num_profile_tier_level_minus1 set.now) all.now }
-    ensures { OnOk result (out.new ≡ put (profile_tier_level_idxs vps_num_profile_tier_level_minus1 set.now) all.now out.old) }
+    ensures { OnOk result (out.new ≡ printed (profile_tier_level_idxs vps_num_profile_tier_level_minus1 set.now) all.now out.old) }
 {
     let profiles = vps_num_profile_tier_level_minus1;
     for j in 0..all.len() {
-        put_profile_tier_level_idx(out, all[j], profiles, set, j)?;
+        let outer = out.open(j as u64)?;
+        print_profile_tier_level_idx(out, all[j], profiles, set, j)?;
+        out.close(outer);
     }
     Ok(())
 }
 
 // profile_tier_level_idx of the layers of a set, and alt_output_layer_flag.
 #[tactic(auto, unfolding(crate::specs::OutputSets::set_profiles))]
-fn put_set_profiles(
-    out: &mut BitWriter,
+fn print_set_profiles(
+    out: &mut Printer,
     idxs: &[Option<u8>],
     alt_output_layer_flag: Option<u8>,
     infos: &[LayerInfo],
@@ -406,18 +373,24 @@ fn put_set_profiles(
 ) -> Result<(), AllocError>
     requires profiles { vps_num_profile_tier_level_minus1 ≤ 63 }
     requires valid { Valid (set_profiles infos.now vps_num_profile_tier_level_minus1 set.now) (idxs.now, alt_output_layer_flag) }
-    ensures { OnOk result (out.new ≡ put (set_profiles infos.now vps_num_profile_tier_level_minus1 set.now) (idxs.now, alt_output_layer_flag) out.old) }
+    ensures { OnOk result (out.new ≡ printed (set_profiles infos.now vps_num_profile_tier_level_minus1 set.now) (idxs.now, alt_output_layer_flag) out.old) }
 {
     let alternative = has_one_output(infos, set);
-    put_profile_tier_level_idxs(out, idxs, vps_num_profile_tier_level_minus1, set)?;
-    put_u8_if(out, alternative, 1, alt_output_layer_flag)
+    print_profile_tier_level_idxs(out, idxs, vps_num_profile_tier_level_minus1, set)?;
+    out.unset_flag_if(
+        alternative,
+        "alt_output_layer_flag",
+        Rule::AltOutput,
+        alt_output_layer_flag,
+    )?;
+    Ok(())
 }
 
 // Output layer set i, the layer sets being those from 1 on.
 #[tactic(auto, unfolding(crate::specs::OutputSets::output_layer_set))]
-fn put_output_layer_set(
+fn print_output_layer_set(
     alloc: Global,
-    out: &mut BitWriter,
+    out: &mut Printer,
     v: &OutputLayerSet,
     infos: &[LayerInfo],
     sets: &[LayerSet],
@@ -429,35 +402,38 @@ fn put_output_layer_set(
     requires ids { (k : ℕ) → length (get_or sets.now k []) ≤ 63 }
     requires profiles { vps_num_profile_tier_level_minus1 ≤ 63 }
     requires valid { Valid (output_layer_set infos.now sets.now vps_num_profile_tier_level_minus1 idc i) v.now }
-    ensures { OnOk result (out.new ≡ put (output_layer_set infos.now sets.now vps_num_profile_tier_level_minus1 idc i) v.now out.old) }
+    ensures { OnOk result (out.new ≡ printed (output_layer_set infos.now sets.now vps_num_profile_tier_level_minus1 idc i) v.now out.old) }
 {
     let num_layer_sets = sets.len() + 1;
     let own = num_layer_sets > 2 && num_layer_sets <= i;
     let flagged = num_layer_sets <= i || idc == 2;
     let layers = ols_layers(alloc, sets, i, v.layer_set_idx_for_ols_minus1)?;
     let outputs = ols_outputs(alloc, &layers, &v.output_layer_flag, idc)?;
-    put_u8_if(
-        out,
-        own,
-        clog2(sets.len() as u32, 8),
-        v.layer_set_idx_for_ols_minus1,
+    print_layer_set_idx_if(out, own, v.layer_set_idx_for_ols_minus1, num_layer_sets)?;
+    out.u8s_if(
+        flagged,
+        "output_layer_flag",
+        0,
+        layers.len() as u32,
+        1,
+        &v.output_layer_flag,
     )?;
-    put_output_layer_flags_if(out, flagged, &v.output_layer_flag, layers.len())?;
     let set = ols_of(alloc, infos, layers, outputs)?;
-    put_set_profiles(
+    print_set_profiles(
         out,
         &v.profile_tier_level_idx,
         v.alt_output_layer_flag,
         infos,
         vps_num_profile_tier_level_minus1,
         &set,
-    )
+    )?;
+    Ok(())
 }
 
-#[tactic(auto, using(mv_syntax::proofs::LoopLaws::put_item_steps), unfolding(crate::specs::OutputSets::output_layer_sets))]
-fn put_output_layer_sets(
+#[tactic(auto, using(mv_syntax::proofs::PrintingLoops::print_item_steps), unfolding(crate::specs::OutputSets::output_layer_sets))]
+fn print_output_layer_sets(
     alloc: Global,
-    out: &mut BitWriter,
+    out: &mut Printer,
     all: &[OutputLayerSet],
     infos: &[LayerInfo],
     sets: &[LayerSet],
@@ -469,19 +445,21 @@ fn put_output_layer_sets(
     requires ids { (k : ℕ) → length (get_or sets.now k []) ≤ 63 }
     requires profiles { vps_num_profile_tier_level_minus1 ≤ 63 }
     requires valid { Valid (output_layer_sets infos.now sets.now vps_num_profile_tier_level_minus1 num_add_olss idc) all.now }
-    ensures { OnOk result (out.new ≡ put (output_layer_sets infos.now sets.now vps_num_profile_tier_level_minus1 num_add_olss idc) all.now out.old) }
+    ensures { OnOk result (out.new ≡ printed (output_layer_sets infos.now sets.now vps_num_profile_tier_level_minus1 num_add_olss idc) all.now out.old) }
 {
     let profiles = vps_num_profile_tier_level_minus1;
     for k in 0..all.len() {
-        put_output_layer_set(alloc, out, &all[k], infos, sets, profiles, idc, k + 1)?;
+        let outer = out.open(k as u64 + 1)?;
+        print_output_layer_set(alloc, out, &all[k], infos, sets, profiles, idc, k + 1)?;
+        out.close(outer);
     }
     Ok(())
 }
 
-/// Writes the output layer sets, the layer sets being those from 1 on.
+/// Prints the output layer sets, the layer sets being those from 1 on.
 #[tactic(auto, unfolding(crate::specs::OutputSets::output_sets))]
-pub(crate) fn put_output_sets(
-    out: &mut BitWriter,
+pub(crate) fn print_output_sets(
+    out: &mut Printer,
     v: &VpsOutputSets,
     infos: &[LayerInfo],
     sets: &[LayerSet],
@@ -490,13 +468,13 @@ pub(crate) fn put_output_sets(
     requires ids { (k : ℕ) → length (get_or sets.now k []) ≤ 63 }
     requires profiles { vps_num_profile_tier_level_minus1 ≤ 63 }
     requires valid { Valid (output_sets infos.now sets.now vps_num_profile_tier_level_minus1) v.now }
-    ensures { OnOk result (out.new ≡ put (output_sets infos.now sets.now vps_num_profile_tier_level_minus1) v.now out.old) }
+    ensures { OnOk result (out.new ≡ printed (output_sets infos.now sets.now vps_num_profile_tier_level_minus1) v.now out.old) }
 {
     let alloc = *v.output_layer_sets.allocator();
     let several = sets.len() > 0;
-    put_ue_if(out, several, v.num_add_olss)?;
-    put_u8_if(out, several, 2, v.default_output_layer_idc)?;
-    put_output_layer_sets(
+    print_num_add_olss(out, v.num_add_olss, sets.len() + 1)?;
+    print_default_output_layer_idc_if(out, several, v.default_output_layer_idc)?;
+    print_output_layer_sets(
         alloc,
         out,
         &v.output_layer_sets,
@@ -505,5 +483,6 @@ pub(crate) fn put_output_sets(
         vps_num_profile_tier_level_minus1,
         v.num_add_olss.unwrap_or(0),
         v.default_output_layer_idc.unwrap_or(0),
-    )
+    )?;
+    Ok(())
 }

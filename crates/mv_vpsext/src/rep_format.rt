@@ -1,15 +1,13 @@
 ghost use Rattle.std.specs.Prelude.{◌≡◌, OnOk};
-ghost use Rattle.mv_syntax.specs.Table.{u, when, Valid, read, put};
+ghost use Rattle.mv_syntax.specs.Table.{u, when, Valid};
+ghost use Rattle.mv_syntax.specs.Printed.{printed};
 ghost use Rattle.mv_syntax.specs.Words.{◌!◌∶◌};
-ghost use Rattle.mv_syntax.specs.Answers.{Fills};
-ghost use Rattle.mv_vpsext.specs.Faults.{means};
+ghost use Rattle.mv_fields.specs.Reading.{ReadsBy, ReadsAs};
 ghost use Rattle.mv_vpsext.specs.Formats.{no_side, lacks_chroma, chroma_and_depth, conformance_window, rep_format};
 ghost use Rattle.mv_rules.specs.declared.rule.Rule.TheVariants.{VpsLimit};
 
-use crate::fault::ExtFault;
-use crate::fields::{u8_within, unset_flag_if};
-use mv_bits::{BitReader, BitWriter};
-use mv_fields::{put_u8, put_u8_if, put_u16, put_ue, u8_of, u16_of};
+use mv_bits::BitReader;
+use mv_fields::{Fault, Printer, u8_of, u8_within, u16_of, unset_flag_if};
 use mv_rules::Rule;
 use std::alloc::AllocError;
 
@@ -45,8 +43,8 @@ pub struct RepFormat {
 }
 
 #[tactic(auto, unfolding(crate::specs::Formats::chroma_and_depth))]
-fn chroma_and_depth_of(bits: &mut BitReader) -> Result<ChromaAndDepth, ExtFault>
-    ensures { Fills (λ v. v) means bits.old bits.new result (read chroma_and_depth bits.old.left) }
+fn chroma_and_depth_of(bits: &mut BitReader) -> Result<ChromaAndDepth, Fault<Rule>>
+    ensures { ReadsBy chroma_and_depth bits.old bits.new result }
 {
     let chroma_format_vps_idc = u8_of(bits, 2)?;
     Ok(ChromaAndDepth {
@@ -64,8 +62,8 @@ fn chroma_and_depth_of(bits: &mut BitReader) -> Result<ChromaAndDepth, ExtFault>
 fn chroma_and_depth_if(
     bits: &mut BitReader,
     present: bool,
-) -> Result<Option<ChromaAndDepth>, ExtFault>
-    ensures { Fills (λ v. v) means bits.old bits.new result (read (when present chroma_and_depth) bits.old.left) }
+) -> Result<Option<ChromaAndDepth>, Fault<Rule>>
+    ensures { ReadsBy (when present chroma_and_depth) bits.old bits.new result }
 {
     if !present {
         return Ok(None);
@@ -74,8 +72,8 @@ fn chroma_and_depth_if(
 }
 
 #[tactic(auto, unfolding(crate::specs::Formats::conformance_window))]
-fn conformance_window_of(bits: &mut BitReader) -> Result<ConformanceWindow, ExtFault>
-    ensures { Fills (λ v. v) means bits.old bits.new result (read conformance_window bits.old.left) }
+fn conformance_window_of(bits: &mut BitReader) -> Result<ConformanceWindow, Fault<Rule>>
+    ensures { ReadsBy conformance_window bits.old bits.new result }
 {
     Ok(ConformanceWindow {
         conf_win_vps_left_offset: bits.ue()?,
@@ -88,8 +86,8 @@ fn conformance_window_of(bits: &mut BitReader) -> Result<ConformanceWindow, ExtF
 fn conformance_window_if(
     bits: &mut BitReader,
     present: bool,
-) -> Result<Option<ConformanceWindow>, ExtFault>
-    ensures { Fills (λ v. v) means bits.old bits.new result (read (when present conformance_window) bits.old.left) }
+) -> Result<Option<ConformanceWindow>, Fault<Rule>>
+    ensures { ReadsBy (when present conformance_window) bits.old bits.new result }
 {
     if !present {
         return Ok(None);
@@ -98,30 +96,30 @@ fn conformance_window_if(
 }
 
 // The next field u(16), a width or height in luma samples.
-fn side_of(bits: &mut BitReader) -> Result<u16, ExtFault>
-    ensures { Fills (λ v. v) means bits.old bits.new result (read (u 16 ! VpsLimit ∶ no_side) bits.old.left) }
+fn side_of(bits: &mut BitReader) -> Result<u16, Fault<Rule>>
+    ensures { ReadsBy (u 16 ! VpsLimit ∶ no_side) bits.old bits.new result }
 {
     let samples = u16_of(bits, 16)?;
     if samples == 0 || samples > 16_384 {
-        return Err(ExtFault::Breaks(Rule::VpsLimit));
+        return Err(Fault::Breaks(Rule::VpsLimit));
     }
     Ok(samples)
 }
 
 // The flag of the format of index i that says whether the format has its own chroma format and bit depths.
-fn chroma_flag_of(bits: &mut BitReader, i: u32) -> Result<u8, ExtFault>
-    ensures { Fills (λ v. v) means bits.old bits.new result (read (u 1 ! VpsLimit ∶ lacks_chroma i) bits.old.left) }
+fn chroma_flag_of(bits: &mut BitReader, i: u32) -> Result<u8, Fault<Rule>>
+    ensures { ReadsBy (u 1 ! VpsLimit ∶ lacks_chroma i) bits.old bits.new result }
 {
     let flag = u8_of(bits, 1)?;
     if i == 0 && flag != 1 {
-        return Err(ExtFault::Breaks(Rule::VpsLimit));
+        return Err(Fault::Breaks(Rule::VpsLimit));
     }
     Ok(flag)
 }
 
 #[tactic(auto, unfolding(crate::specs::Formats::rep_format))]
-pub(crate) fn rep_format_of(bits: &mut BitReader, i: u32) -> Result<RepFormat, ExtFault>
-    ensures { Fills (λ v. v) means bits.old bits.new result (read (rep_format i) bits.old.left) }
+pub(crate) fn rep_format_of(bits: &mut BitReader, i: u32) -> Result<RepFormat, Fault<Rule>>
+    ensures { ReadsBy (rep_format i) bits.old bits.new result }
 {
     let pic_width_vps_in_luma_samples = side_of(bits)?;
     let pic_height_vps_in_luma_samples = side_of(bits)?;
@@ -140,77 +138,80 @@ pub(crate) fn rep_format_of(bits: &mut BitReader, i: u32) -> Result<RepFormat, E
 }
 
 #[tactic(auto, unfolding(crate::specs::Formats::chroma_and_depth))]
-fn put_chroma_and_depth(out: &mut BitWriter, v: &ChromaAndDepth) -> Result<(), AllocError>
+fn print_chroma_and_depth(out: &mut Printer, v: &ChromaAndDepth) -> Result<(), AllocError>
     requires { Valid chroma_and_depth v.now }
-    ensures { OnOk result (out.new ≡ put chroma_and_depth v.now out.old) }
+    ensures { OnOk result (out.new ≡ printed chroma_and_depth v.now out.old) }
 {
-    put_u8(out, 2, v.chroma_format_vps_idc)?;
-    put_u8_if(
-        out,
+    out.u8("chroma_format_vps_idc", 2, v.chroma_format_vps_idc)?;
+    out.unset_flag_if(
         v.chroma_format_vps_idc == 3,
-        1,
+        "separate_colour_plane_vps_flag",
+        Rule::VpsLimit,
         v.separate_colour_plane_vps_flag,
     )?;
-    put_u8(out, 4, v.bit_depth_vps_luma_minus8)?;
-    put_u8(out, 4, v.bit_depth_vps_chroma_minus8)
+    out.u8("bit_depth_vps_luma_minus8", 4, v.bit_depth_vps_luma_minus8)?;
+    out.u8("bit_depth_vps_chroma_minus8", 4, v.bit_depth_vps_chroma_minus8)?;
+    Ok(())
 }
 
-fn put_chroma_and_depth_if(
-    out: &mut BitWriter,
+fn print_chroma_and_depth_if(
+    out: &mut Printer,
     present: bool,
     v: &Option<ChromaAndDepth>,
 ) -> Result<(), AllocError>
     requires { Valid (when present chroma_and_depth) v.now }
-    ensures { OnOk result (out.new ≡ put (when present chroma_and_depth) v.now out.old) }
+    ensures { OnOk result (out.new ≡ printed (when present chroma_and_depth) v.now out.old) }
 {
     match v {
-        Some(v) => put_chroma_and_depth(out, v),
+        Some(v) => print_chroma_and_depth(out, v),
         None => Ok(()),
     }
 }
 
 #[tactic(auto, unfolding(crate::specs::Formats::conformance_window))]
-fn put_conformance_window(out: &mut BitWriter, v: &ConformanceWindow) -> Result<(), AllocError>
+fn print_conformance_window(out: &mut Printer, v: &ConformanceWindow) -> Result<(), AllocError>
     requires { Valid conformance_window v.now }
-    ensures { OnOk result (out.new ≡ put conformance_window v.now out.old) }
+    ensures { OnOk result (out.new ≡ printed conformance_window v.now out.old) }
 {
-    put_ue(out, v.conf_win_vps_left_offset)?;
-    put_ue(out, v.conf_win_vps_right_offset)?;
-    put_ue(out, v.conf_win_vps_top_offset)?;
-    put_ue(out, v.conf_win_vps_bottom_offset)
+    out.ue("conf_win_vps_left_offset", v.conf_win_vps_left_offset)?;
+    out.ue("conf_win_vps_right_offset", v.conf_win_vps_right_offset)?;
+    out.ue("conf_win_vps_top_offset", v.conf_win_vps_top_offset)?;
+    out.ue("conf_win_vps_bottom_offset", v.conf_win_vps_bottom_offset)?;
+    Ok(())
 }
 
-fn put_conformance_window_if(
-    out: &mut BitWriter,
+fn print_conformance_window_if(
+    out: &mut Printer,
     present: bool,
     v: &Option<ConformanceWindow>,
 ) -> Result<(), AllocError>
     requires { Valid (when present conformance_window) v.now }
-    ensures { OnOk result (out.new ≡ put (when present conformance_window) v.now out.old) }
+    ensures { OnOk result (out.new ≡ printed (when present conformance_window) v.now out.old) }
 {
     match v {
-        Some(v) => put_conformance_window(out, v),
+        Some(v) => print_conformance_window(out, v),
         None => Ok(()),
     }
 }
 
 #[tactic(auto, unfolding(crate::specs::Formats::rep_format))]
-pub(crate) fn put_rep_format(out: &mut BitWriter, v: &RepFormat, i: usize) -> Result<(), AllocError>
+pub(crate) fn print_rep_format(out: &mut Printer, v: &RepFormat, i: usize) -> Result<(), AllocError>
     requires { Valid (rep_format i) v.now }
-    ensures { OnOk result (out.new ≡ put (rep_format i) v.now out.old) }
+    ensures { OnOk result (out.new ≡ printed (rep_format i) v.now out.old) }
 {
-    put_u16(out, 16, v.pic_width_vps_in_luma_samples)?;
-    put_u16(out, 16, v.pic_height_vps_in_luma_samples)?;
-    put_u8(out, 1, v.chroma_and_bit_depth_vps_present_flag)?;
-    put_chroma_and_depth_if(
+    out.u16("pic_width_vps_in_luma_samples", 16, v.pic_width_vps_in_luma_samples)?;
+    out.u16("pic_height_vps_in_luma_samples", 16, v.pic_height_vps_in_luma_samples)?;
+    out.flag("chroma_and_bit_depth_vps_present_flag", v.chroma_and_bit_depth_vps_present_flag)?;
+    print_chroma_and_depth_if(
         out,
         v.chroma_and_bit_depth_vps_present_flag == 1,
         &v.chroma_and_depth,
     )?;
-    put_u8(out, 1, v.conformance_window_vps_flag)?;
-    put_conformance_window_if(
+    out.flag("conformance_window_vps_flag", v.conformance_window_vps_flag)?;
+    print_conformance_window_if(
         out,
         v.conformance_window_vps_flag == 1,
         &v.conformance_window,
-    )
+    )?;
+    Ok(())
 }

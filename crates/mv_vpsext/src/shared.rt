@@ -1,29 +1,31 @@
-//! profile_tier_level (7.3.3) in the extension of a video parameter set.
+//! profile_tier_level (7.3.3) in the extension of a video parameter set, whose limits break its limit rule.
 
 ghost use Rattle.std.specs.Prelude.{◌≡◌, ◌≤◌, false, OnOk};
-ghost use Rattle.mv_syntax.specs.Table.{by_rule, when, Valid, read, put};
-ghost use Rattle.mv_syntax.specs.Answers.{Fills};
+ghost use Rattle.mv_syntax.specs.Table.{when, Valid};
+ghost use Rattle.mv_syntax.specs.Words.{◌under◌};
+ghost use Rattle.mv_syntax.specs.Printed.{printed};
+ghost use Rattle.mv_fields.specs.Reading.{ReadsBy};
+ghost use Rattle.mv_rules.specs.declared.rule.Rule.TheVariants.{VpsLimit};
 ghost use Rattle.mv_common.specs.ProfileTier.{profile_tier_level};
-ghost use Rattle.mv_vpsext.specs.Faults.{means};
 
-use crate::fault::ExtFault;
-use mv_bits::{BitReader, BitWriter};
+use mv_bits::BitReader;
 use mv_common::{ProfileArgs, ProfileTier};
+use mv_fields::{Fault, Printer, under};
+use mv_rules::Rule;
 use std::alloc::{AllocError, Global};
 
+#[tactic(auto, using(mv_fields::proofs::Shared::shared_steps))]
 pub(crate) fn profile_tier_of(
     alloc: Global,
     bits: &mut BitReader,
     present: bool,
     subs: u8,
-) -> Result<ProfileTier, ExtFault>
+) -> Result<ProfileTier, Fault<Rule>>
     requires { subs ≤ 6 }
-    ensures { Fills (λ v. v) means bits.old bits.new result (read (by_rule 26 (profile_tier_level present subs)) bits.old.left) }
+    ensures { ReadsBy (profile_tier_level present subs under VpsLimit) bits.old bits.new result }
 {
-    match ProfileTier::read(alloc, bits, &ProfileArgs { present, subs }) {
-        Ok(value) => Ok(value),
-        Err(fault) => Err(ExtFault::from(fault)),
-    }
+    let args = ProfileArgs { present, subs };
+    under(Rule::VpsLimit, ProfileTier::read(alloc, bits, &args))
 }
 
 pub(crate) fn profile_tier_if(
@@ -31,9 +33,9 @@ pub(crate) fn profile_tier_if(
     bits: &mut BitReader,
     coded: bool,
     subs: u8,
-) -> Result<Option<ProfileTier>, ExtFault>
+) -> Result<Option<ProfileTier>, Fault<Rule>>
     requires { subs ≤ 6 }
-    ensures { Fills (λ v. v) means bits.old bits.new result (read (when coded (by_rule 26 (profile_tier_level false subs))) bits.old.left) }
+    ensures { ReadsBy (when coded (profile_tier_level false subs under VpsLimit)) bits.old bits.new result }
 {
     if !coded {
         return Ok(None);
@@ -41,32 +43,22 @@ pub(crate) fn profile_tier_if(
     Ok(Some(profile_tier_of(alloc, bits, false, subs)?))
 }
 
-#[tactic(auto, using(crate::proofs::Sharing::shared_put_steps))]
-pub(crate) fn put_profile_tier(
-    out: &mut BitWriter,
-    v: &ProfileTier,
-    present: bool,
-    subs: u8,
-) -> Result<(), AllocError>
-    requires subs { subs ≤ 6 }
-    requires valid { Valid (by_rule 26 (profile_tier_level present subs)) v.now }
-    ensures { OnOk result (out.new ≡ put (by_rule 26 (profile_tier_level present subs)) v.now out.old) }
-{
-    v.write(out, &ProfileArgs { present, subs })
-}
-
-pub(crate) fn put_profile_tier_if(
-    out: &mut BitWriter,
+pub(crate) fn print_profile_tier_if(
+    out: &mut Printer,
     coded: bool,
     v: &Option<ProfileTier>,
     subs: u8,
 ) -> Result<(), AllocError>
     requires subs { subs ≤ 6 }
-    requires valid { Valid (when coded (by_rule 26 (profile_tier_level false subs))) v.now }
-    ensures { OnOk result (out.new ≡ put (when coded (by_rule 26 (profile_tier_level false subs))) v.now out.old) }
+    requires valid { Valid (when coded (profile_tier_level false subs under VpsLimit)) v.now }
+    ensures { OnOk result (out.new ≡ printed (when coded (profile_tier_level false subs under VpsLimit)) v.now out.old) }
 {
+    let args = ProfileArgs {
+        present: false,
+        subs,
+    };
     match v {
-        Some(v) => put_profile_tier(out, v, false, subs),
+        Some(v) => v.print(out, &args),
         None => Ok(()),
     }
 }

@@ -310,11 +310,11 @@ fn are_dependencies(v: &VpsDependencies) -> bool {
         && v.sub_layers_vps_max_minus1.is_none()
         && v.max_tid_ref_present_flag == 0
         && v.max_tid_il_ref_pics_plus1.is_none()
+        && v.default_ref_layers_active_flag == 1
 }
 
 fn are_profiles(v: &VpsProfiles) -> bool {
-    v.default_ref_layers_active_flag == 1
-        && v.vps_num_profile_tier_level_minus1 == 2
+    v.vps_num_profile_tier_level_minus1 == 2
         && match v.profiles.as_slice() {
             [only] => {
                 only.vps_profile_present_flag == 1
@@ -343,7 +343,10 @@ fn are_one_format(v: &VpsFormats) -> bool {
         && v.rep_formats.as_slice() == [SQUARE].as_slice()
         && v.rep_format_idx_present_flag.is_none()
         && v.vps_rep_format_idx.is_none()
-        && v.max_one_active_ref_layer_flag == 1
+}
+
+fn are_pictures(v: &VpsPictures) -> bool {
+    v.max_one_active_ref_layer_flag == 1
         && v.vps_poc_lsb_aligned_flag == 0
         && v.poc_lsb_not_present_flag.as_slice() == [None].as_slice()
 }
@@ -382,7 +385,10 @@ fn are_types(v: &VpsDependencyTypes) -> bool {
         && v.direct_dependency_all_layers_flag == 1
         && v.direct_dependency_all_layers_type == Some(2)
         && v.direct_dependency_type.is_none()
-        && v.vps_non_vui_extension_length == 0
+}
+
+fn is_ending(v: &VpsExtEnding) -> bool {
+    v.vps_non_vui_extension_length == 0
         && v.vps_non_vui_extension_data_byte.is_empty()
         && v.vps_vui_present_flag == 0
 }
@@ -394,8 +400,10 @@ fn are_two_views(value: &VpsExt) -> bool {
         && are_profiles(&value.profiles)
         && are_output_sets(&value.output_sets)
         && are_one_format(&value.formats)
+        && are_pictures(&value.pictures)
         && are_all_sizes(&value.dpb_size)
-        && are_types(&value.types)
+        && are_types(&value.dependency_types)
+        && is_ending(&value.ending)
 }
 
 #[test]

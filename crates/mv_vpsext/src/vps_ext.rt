@@ -1,27 +1,29 @@
 ghost use Rattle.std.specs.Prelude.{◌≡◌, ◌++◌, IfOk, OnOk, OnErr};
-ghost use Rattle.mv_syntax.specs.Table.{Valid, bits_of, read, put};
-ghost use Rattle.mv_syntax.specs.Answers.{Fills, Answers};
+ghost use Rattle.mv_syntax.specs.Table.{Valid, Reads, Cut, bits_of};
+ghost use Rattle.mv_syntax.specs.Printed.{printed};
+ghost use Rattle.mv_rules.specs.declared.rule.Rule.TheVariants.{VpsSyntax};
+ghost use Rattle.mv_fields.specs.Reading.{ReadsAs, ReadsWhole};
 ghost use Rattle.mv_vpsext.specs.Args.{AreVpsArgs};
-ghost use Rattle.mv_vpsext.specs.Faults.{means, refusal_means};
 ghost use Rattle.mv_vpsext.specs.VpsExt.{vps_extension};
 ghost use Rattle.mv_vpsext.specs.Derived.{derived};
 
 use crate::args::VpsArgs;
 use crate::dependencies::VpsDependencies;
-use crate::dependency_types::VpsDependencyTypes;
+use crate::dependency_types::{VpsDependencyTypes, print_types, types_of};
 use crate::derived::all_ols;
-use crate::dimensions::{VpsDimensions, put_dimensions};
+use crate::dimensions::{VpsDimensions, dimensions_of, print_dimensions};
 use crate::dpb_sizes::DpbSizes;
-use crate::fault::ExtFault;
-use crate::formats::VpsFormats;
+use crate::ending::{VpsExtEnding, ending_of, print_ending};
+use crate::formats::{VpsFormats, formats_of, print_formats};
 use crate::output_sets::VpsOutputSets;
 use crate::parts::{
-    fifth_part_of, first_part_of, fourth_part_of, infos_of, put_fifth_part, put_fourth_part,
-    put_second_part, put_seventh_part, put_sixth_part, second_part_of, sets_of, seventh_part_of,
-    sixth_part_of, third_part_of,
+    dependencies_in, dpb_size_in, infos_of, output_sets_in, print_dependencies_in,
+    print_dpb_size_in, print_output_sets_in, sets_of,
 };
-use crate::profiles::{VpsProfiles, put_profiles};
-use mv_bits::{BitReader, BitWriter, NoBits};
+use crate::pictures::{VpsPictures, pictures_of, print_pictures};
+use crate::profiles::{VpsProfiles, print_profiles, profiles_of};
+use mv_bits::{BitReader, BitWriter};
+use mv_fields::{Fault, Printer};
 use mv_layers::Derived;
 use mv_rules::{ReadFault, Rule};
 use std::alloc::{AllocError, Global};
@@ -35,9 +37,11 @@ pub struct VpsExt {
     pub profiles: VpsProfiles,
     pub output_sets: VpsOutputSets,
     pub formats: VpsFormats,
+    pub pictures: VpsPictures,
     /// Of the output layer sets from 1 on.
     pub dpb_size: Vec<DpbSizes>,
-    pub types: VpsDependencyTypes,
+    pub dependency_types: VpsDependencyTypes,
+    pub ending: VpsExtEnding,
 }
 
 impl Model for VpsExt {
@@ -51,106 +55,111 @@ impl Model for VpsExt {
       profiles = e.profiles;
       output_sets = e.output_sets;
       formats = e.formats;
+      pictures = e.pictures;
       dpb_size = e.dpb_size.items;
-      types = e.types;
+      dependency_types = e.dependency_types;
+      ending = e.ending;
     } };
 }
 
-// What a fault within the extension is to the caller: bits that are none of it break the syntax rule.
-fn refusal(fault: ExtFault) -> ReadFault
-    ensures { refusal_means result ≡ means fault }
-{
-    match fault {
-        ExtFault::NoBits => ReadFault::Refused(Rule::VpsSyntax),
-        ExtFault::Breaks(rule) => ReadFault::Refused(rule),
-        ExtFault::Memory => ReadFault::Memory,
-    }
-}
-
-#[tactic(auto, unfolding(crate::specs::VpsExt::vps_extension), using(crate::proofs::Bounds::sub_layers_of_read, crate::proofs::Bounds::profiles_of_read))]
-fn vps_ext_of(
-    alloc: Global,
-    bits: &mut BitReader,
-    args: &VpsArgs,
-) -> Result<(VpsExt, Derived), ExtFault>
-    requires { AreVpsArgs args.now }
-    ensures reads { Fills (λ v. v.0) means bits.old bits.new result (read (vps_extension args.now) bits.old.left) }
-    ensures derived { IfOk result (λ v. v.1 ≡ derived args.now v.0) }
-{
-    let dimensions = first_part_of(alloc, bits, args)?;
-    let (dependencies, layers) = second_part_of(alloc, bits, args, &dimensions)?;
-    let profiles = third_part_of(alloc, bits, args)?;
-    let (output_sets, sets) = fourth_part_of(alloc, bits, args, &layers, &profiles)?;
-    let formats = fifth_part_of(alloc, bits, args, &dependencies)?;
-    let dpb_size = sixth_part_of(alloc, bits, args, &layers, &dependencies, &sets)?;
-    let types = seventh_part_of(alloc, bits, args, &dependencies)?;
-    let sets = all_ols(alloc, sets, &dpb_size)?;
-    let ext = VpsExt {
-        dimensions,
-        dependencies,
-        profiles,
-        output_sets,
-        formats,
-        dpb_size,
-        types,
-    };
-    Ok((ext, Derived { layers, sets }))
-}
-
-#[tactic(auto, unfolding(crate::specs::VpsExt::vps_extension), using(crate::proofs::Bounds::sub_layers_of_valid, crate::proofs::Bounds::profiles_of_valid))]
-fn put_vps_ext(out: &mut BitWriter, v: &VpsExt, args: &VpsArgs) -> Result<(), AllocError>
-    requires args { AreVpsArgs args.now }
-    requires valid { Valid (vps_extension args.now) v.now }
-    ensures { OnOk result (out.new ≡ put (vps_extension args.now) v.now out.old) }
-{
-    let alloc = *v.dpb_size.allocator();
-    let infos = infos_of(alloc, args, &v.dimensions, &v.dependencies)?;
-    let sets = sets_of(alloc, args, &infos, &v.output_sets)?;
-    let sub_layers = args.vps_max_sub_layers_minus1;
-    put_dimensions(out, &v.dimensions, args.vps_max_layers_minus1, sub_layers)?;
-    put_second_part(out, &v.dependencies, args, &v.dimensions, &infos)?;
-    put_profiles(out, &v.profiles, sub_layers)?;
-    put_fourth_part(out, &v.output_sets, args, &infos, &v.profiles)?;
-    put_fifth_part(out, &v.formats, args, &v.dependencies)?;
-    put_sixth_part(
-        alloc,
-        out,
-        &v.dpb_size,
-        args,
-        &infos,
-        &v.dependencies,
-        &sets,
-    )?;
-    put_seventh_part(out, &v.types, args, &v.dependencies)
-}
-
 impl VpsExt {
-    /// Reads the extension of a video parameter set (F.7.3.2.1.1), and gives with it the layers and the output layer sets that
-    /// the video parameter set describes (F.7.4.3.1.1).
+    /// Reads the extension of a video parameter set (F.7.3.2.1.1) as a part of it, and gives with it the layers and the output
+    /// layer sets that the video parameter set describes (F.7.4.3.1.1).
     ///
-    /// `Refused` with the first rule that a field breaks, all fields before it being read, and the least of those that one
+    /// `Breaks` with the first rule that a field breaks, all fields before it being read, and the least of those that one
     /// breaks: `Splitting`, `Depth`, `Spatial`, `Auxiliary`, `ReservedDimension`, `NoViewDimension`, `SameView`,
     /// `AddedLayerSets`, `AltOutput`, `LayerSetBase`, `LayerSetClosure`, `LayerSetUnknown`, `ReservedOutput` or
-    /// `DependencyType`, as each names it, and `VpsLimit` where a field is past its limit; with `VpsSyntax` where no rule is
-    /// broken and the bits end before or in a field. `Memory` where memory runs out. After a fault the reader stands where it
-    /// stood.
+    /// `DependencyType`, as each names it, and `VpsLimit` where a field is past its limit. `NoBits` where no rule is broken and
+    /// the bits end before or in a field. `Memory` where memory runs out.
+    #[tactic(auto, unfolding(crate::specs::VpsExt::vps_extension), using(crate::proofs::Bounds::sub_layers_of_read, crate::proofs::Bounds::profiles_of_read))]
+    pub fn part(
+        alloc: Global,
+        bits: &mut BitReader,
+        args: &VpsArgs,
+    ) -> Result<(VpsExt, Derived), Fault<Rule>>
+        requires { AreVpsArgs args.now }
+        ensures reads { ReadsAs (λ v. v.0) (vps_extension args.now) bits.old bits.new result }
+        ensures derived { IfOk result (λ v. v.1 ≡ derived args.now v.0) }
+    {
+        let last = args.vps_max_layers_minus1;
+        let sub_layers = args.vps_max_sub_layers_minus1;
+        let dimensions = dimensions_of(alloc, bits, last, sub_layers)?;
+        let (dependencies, layers) = dependencies_in(alloc, bits, args, &dimensions)?;
+        let profiles = profiles_of(alloc, bits, sub_layers)?;
+        let (output_sets, sets) = output_sets_in(alloc, bits, args, &layers, &profiles)?;
+        let flags = &dependencies.direct_dependency_flag;
+        let formats = formats_of(alloc, bits, last)?;
+        let pictures = pictures_of(alloc, bits, last, flags)?;
+        let dpb_size = dpb_size_in(alloc, bits, args, &layers, &dependencies, &sets)?;
+        let dependency_types = types_of(alloc, bits, last, flags)?;
+        let ending = ending_of(alloc, bits)?;
+        let sets = all_ols(alloc, sets, &dpb_size)?;
+        let ext = VpsExt {
+            dimensions,
+            dependencies,
+            profiles,
+            output_sets,
+            formats,
+            pictures,
+            dpb_size,
+            dependency_types,
+            ending,
+        };
+        Ok((ext, Derived { layers, sets }))
+    }
+
+    /// Reads the extension of a video parameter set (F.7.3.2.1.1), as `part` does.
+    ///
+    /// `Refused` with the rule that `part` finds broken, or with `VpsSyntax` where it finds too few bits. `Memory` where memory
+    /// runs out.
     pub fn read(
         alloc: Global,
         bits: &mut BitReader,
         args: &VpsArgs,
     ) -> Result<(VpsExt, Derived), ReadFault>
         requires { AreVpsArgs args.now }
-        ensures answers { Answers (λ v. v.0) refusal_means (vps_extension args.now) bits.old bits.new result }
+        ensures answers { ReadsWhole (λ v. Reads (vps_extension args.now) bits.old.left v.0 bits.new.left) (Cut (vps_extension args.now) bits.old.left) VpsSyntax result }
         ensures derived { IfOk result (λ v. v.1 ≡ derived args.now v.0) }
     {
-        let mut ahead = bits.fork();
-        match vps_ext_of(alloc, &mut ahead, args) {
-            Ok(value) => {
-                *bits = ahead;
-                Ok(value)
-            }
-            Err(fault) => Err(refusal(fault)),
+        match VpsExt::part(alloc, bits, args) {
+            Ok(value) => Ok(value),
+            Err(fault) => Err(fault.refusal(Rule::VpsSyntax)),
         }
+    }
+
+    /// Prints the extension of a video parameter set (F.7.3.2.1.1).
+    ///
+    /// `AllocError` where memory runs out.
+    #[tactic(auto, unfolding(crate::specs::VpsExt::vps_extension), using(crate::proofs::Bounds::sub_layers_of_valid, crate::proofs::Bounds::profiles_of_valid))]
+    pub fn print(&self, out: &mut Printer, args: &VpsArgs) -> Result<(), AllocError>
+        requires args { AreVpsArgs args.now }
+        requires valid { Valid (vps_extension args.now) self.now }
+        ensures { OnOk result (out.new ≡ printed (vps_extension args.now) self.now out.old) }
+    {
+        let alloc = *self.dpb_size.allocator();
+        let infos = infos_of(alloc, args, &self.dimensions, &self.dependencies)?;
+        let sets = sets_of(alloc, args, &infos, &self.output_sets)?;
+        let last = args.vps_max_layers_minus1;
+        let sub_layers = args.vps_max_sub_layers_minus1;
+        let flags = &self.dependencies.direct_dependency_flag;
+        print_dimensions(out, &self.dimensions, last, sub_layers)?;
+        print_dependencies_in(out, &self.dependencies, args, &self.dimensions, &infos)?;
+        print_profiles(out, &self.profiles, sub_layers)?;
+        print_output_sets_in(out, &self.output_sets, args, &infos, &self.profiles)?;
+        print_formats(out, &self.formats, last)?;
+        print_pictures(out, &self.pictures, last, flags)?;
+        print_dpb_size_in(
+            alloc,
+            out,
+            &self.dpb_size,
+            args,
+            &infos,
+            &self.dependencies,
+            &sets,
+        )?;
+        print_types(out, &self.dependency_types, last, flags)?;
+        print_ending(out, &self.ending)?;
+        Ok(())
     }
 
     /// Writes the extension of a video parameter set (F.7.3.2.1.1).
@@ -162,9 +171,9 @@ impl VpsExt {
         ensures ok { OnOk result (out.new ≡ out.old ++ bits_of (vps_extension args.now) self.now) }
         ensures err { OnErr result (out.new ≡ out.old) }
     {
-        let mut own = out.empty();
-        put_vps_ext(&mut own, self, args)?;
-        out.append(&own)
+        let mut own = Printer::beside(out);
+        self.print(&mut own, args)?;
+        own.append_to(out)
     }
 
     /// The layers and the output layer sets of the video parameter set (F.7.4.3.1.1).

@@ -1,8 +1,0 @@
-use Rattle.std.proofs.Common.{◌≡◌, take}
-use Rattle.mv_syntax.specs.Table.{put}
-use Rattle.mv_syntax.specs.Loops.{items}
-use Rattle.mv_vpsext.specs.Formats.{poc_lsb_not_present}
-use Rattle.mv_vpsext.proofs.formats.put_poc_lsbs_not_present.Given as goal
-
-abbrev pub invariant-loop-k : goal.invariant-loop-k
-invariant-loop-k l = l.out ≡ put (items 1 l.vps_max_layers_minus1 (poc_lsb_not_present l.flags)) (take l.k l.all) l.fn.out

@@ -1,8 +1,0 @@
-use Rattle.std.proofs.Common.{◌≡◌, take}
-use Rattle.mv_syntax.specs.Table.{put}
-use Rattle.mv_syntax.specs.Loops.{items}
-use Rattle.mv_vpsext.specs.OutputSets.{output_layer_flag}
-use Rattle.mv_vpsext.proofs.output_sets.put_output_layer_flags.Given as goal
-
-abbrev pub invariant-loop-j : goal.invariant-loop-j
-invariant-loop-j l = l.out ≡ put (items 0 l.num_layers output_layer_flag) (take l.j l.all) l.fn.out

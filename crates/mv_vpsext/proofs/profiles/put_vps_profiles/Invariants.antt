@@ -1,9 +1,0 @@
-use Rattle.std.proofs.Common.{◌≡◌, ◌-◌, take}
-use Rattle.mv_syntax.specs.Table.{put}
-use Rattle.mv_syntax.specs.Loops.{items}
-use Rattle.mv_vpsext.specs.Profiles.{vps_profile}
-use Rattle.mv_vpsext.proofs.profiles.put_vps_profiles.Given as goal
-
-abbrev pub invariant-loop-k : goal.invariant-loop-k
-invariant-loop-k l =
-    l.out ≡ put (items 2 (l.vps_num_profile_tier_level_minus1 - 1) (vps_profile l.vps_max_sub_layers_minus1)) (take l.k l.all) l.fn.out
