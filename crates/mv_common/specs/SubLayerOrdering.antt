@@ -1,6 +1,7 @@
 -- The sub-layers' numbers of pictures in a video or a sequence parameter set (7.3.2.1, 7.3.2.2.1): the same fields, under names that
 -- begin with the set's. A number over 15 is past its limit (this project's profile).
-use Rattle.std.specs.Prelude.{ℕ, ◌+◌, ◌-◌, List, String, refl, if◌then◌else◌}
+use Rattle.std.specs.Prelude.{ℕ, ◌+◌, ◌-◌, List, refl, if◌then◌else◌}
+use Prim.Native.String.{String}
 use Rattle.mv_syntax.specs.Table.{Table, ◌>>=◌, u, ue, named, shaped}
 use Rattle.mv_syntax.specs.Words.{◌▸◌, ◌>>◌, ◌unless◌, over, is_set}
 use Rattle.mv_syntax.specs.Loops.{each, items}

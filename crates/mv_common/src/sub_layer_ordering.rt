@@ -112,30 +112,23 @@ fn info_present_name(set: ParameterSet) -> &'static str
     }
 }
 
-fn buffering_name(set: ParameterSet) -> &'static str
-    ensures { result.now ≡ codes (buffering_name set) }
+// The names of the fields of a sub-layer.
+fn names(set: ParameterSet) -> (&'static str, &'static str, &'static str)
+    ensures buffering { result.0.now ≡ codes (buffering_name set) }
+    ensures reorder { result.1.now ≡ codes (reorder_name set) }
+    ensures latency { result.2.now ≡ codes (latency_name set) }
 {
     match set {
-        ParameterSet::Video => "vps_max_dec_pic_buffering_minus1",
-        ParameterSet::Sequence => "sps_max_dec_pic_buffering_minus1",
-    }
-}
-
-fn reorder_name(set: ParameterSet) -> &'static str
-    ensures { result.now ≡ codes (reorder_name set) }
-{
-    match set {
-        ParameterSet::Video => "vps_max_num_reorder_pics",
-        ParameterSet::Sequence => "sps_max_num_reorder_pics",
-    }
-}
-
-fn latency_name(set: ParameterSet) -> &'static str
-    ensures { result.now ≡ codes (latency_name set) }
-{
-    match set {
-        ParameterSet::Video => "vps_max_latency_increase_plus1",
-        ParameterSet::Sequence => "sps_max_latency_increase_plus1",
+        ParameterSet::Video => (
+            "vps_max_dec_pic_buffering_minus1",
+            "vps_max_num_reorder_pics",
+            "vps_max_latency_increase_plus1",
+        ),
+        ParameterSet::Sequence => (
+            "sps_max_dec_pic_buffering_minus1",
+            "sps_max_num_reorder_pics",
+            "sps_max_latency_increase_plus1",
+        ),
     }
 }
 
@@ -144,9 +137,10 @@ fn print_sub_layer(out: &mut Printer, v: &SubLayer, set: ParameterSet) -> Result
     requires { Valid (sub_layer set) v.now }
     ensures { OnOk result (out.new ≡ printed (sub_layer set) v.now out.old) }
 {
-    out.ue(buffering_name(set), v.max_dec_pic_buffering_minus1)?;
-    out.ue(reorder_name(set), v.max_num_reorder_pics)?;
-    out.ue(latency_name(set), v.max_latency_increase_plus1)
+    let (buffering, reorder, latency) = names(set);
+    out.ue(buffering, v.max_dec_pic_buffering_minus1)?;
+    out.ue(reorder, v.max_num_reorder_pics)?;
+    out.ue(latency, v.max_latency_increase_plus1)
 }
 
 #[tactic(auto, using(mv_syntax::proofs::PrintingLoops::print_item_steps), unfolding(crate::specs::SubLayerOrdering::sub_layers, mv_syntax::specs::Loops::each))]

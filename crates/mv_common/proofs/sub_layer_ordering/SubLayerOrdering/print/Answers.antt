@@ -8,4 +8,4 @@ unfolding sub_layer_ordering
 returns c =
     let P : SubLayerOrderingValue → Type 0 = λ v. c.print_sub_layers.new.out ≡ printed (sub_layer_ordering c.args.set c.args.subs) v c.args.out.now in
     subst P c.self.view_is
-    (rw (c.in_ok-print_sub_layers.ensures, c.in_ok-flag.ensures, c.info_present_name.ensures, c.first_coded-first.ensures.first) refl)
+    (rw (c.in_ok-print_sub_layers.ensures, c.in_ok-flag.ensures, c.info_present_name.ensures, c.first_coded-first.ensures.first, c.deref.ensures.value) refl)
