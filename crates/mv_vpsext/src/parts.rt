@@ -7,6 +7,8 @@ ghost use Rattle.mv_syntax.specs.Words.{◌otherwise◌};
 ghost use Rattle.mv_fields.specs.Reading.{ReadsBy, ReadsAs};
 ghost use Rattle.mv_vpsext.specs.Args.{AreVpsArgs};
 ghost use Rattle.mv_vpsext.specs.Dependencies.{dependencies};
+ghost use Rattle.mv_vpsext.specs.Pictures.{pictures};
+ghost use Rattle.mv_vpsext.specs.DependencyTypes.{types};
 ghost use Rattle.mv_vpsext.specs.OutputSets.{output_sets};
 ghost use Rattle.mv_vpsext.specs.Sets.{all_sets};
 ghost use Rattle.mv_vpsext.specs.VpsExt.{ext_layers, dpb_sizes};
@@ -14,9 +16,11 @@ ghost use Rattle.mv_vpsext.specs.VpsExt.{ext_layers, dpb_sizes};
 use crate::args::VpsArgs;
 use crate::dependencies::{VpsDependencies, dependencies_of, print_dependencies};
 use crate::dimensions::VpsDimensions;
+use crate::dependency_types::{VpsDependencyTypes, print_types, types_of};
 use crate::dpb_sizes::{DpbSizes, dpb_size_of, print_dpb_size};
 use crate::layers::layers_described;
 use crate::output_sets::{VpsOutputSets, output_sets_of, print_output_sets};
+use crate::pictures::{VpsPictures, pictures_of, print_pictures};
 use crate::profiles::VpsProfiles;
 use crate::sets::{all_dpb_layers_of, all_sets_of};
 use mv_bits::BitReader;
@@ -99,6 +103,19 @@ pub(crate) fn output_sets_in(
     )
 }
 
+pub(crate) fn pictures_in(
+    alloc: Global,
+    bits: &mut BitReader,
+    args: &VpsArgs,
+    references: &VpsDependencies,
+) -> Result<VpsPictures, Fault<Rule>>
+    requires { AreVpsArgs args.now }
+    ensures { ReadsBy (pictures args.now.vps_max_layers_minus1 references.now.direct_dependency_flag) bits.old bits.new result }
+{
+    let flags = &references.direct_dependency_flag;
+    pictures_of(alloc, bits, args.vps_max_layers_minus1, flags)
+}
+
 #[tactic(auto, unfolding(crate::specs::VpsExt::dpb_sizes, crate::specs::Sets::all_dpb_layers))]
 pub(crate) fn dpb_size_in(
     alloc: Global,
@@ -121,6 +138,19 @@ pub(crate) fn dpb_size_in(
         sets,
     )?;
     dpb_size_of(alloc, bits, &layers)
+}
+
+pub(crate) fn types_in(
+    alloc: Global,
+    bits: &mut BitReader,
+    args: &VpsArgs,
+    references: &VpsDependencies,
+) -> Result<VpsDependencyTypes, Fault<Rule>>
+    requires { AreVpsArgs args.now }
+    ensures { ReadsBy (types args.now.vps_max_layers_minus1 references.now.direct_dependency_flag) bits.old bits.new result }
+{
+    let flags = &references.direct_dependency_flag;
+    types_of(alloc, bits, args.vps_max_layers_minus1, flags)
 }
 
 pub(crate) fn print_dependencies_in(
@@ -167,6 +197,20 @@ pub(crate) fn print_output_sets_in(
     )
 }
 
+pub(crate) fn print_pictures_in(
+    out: &mut Printer,
+    v: &VpsPictures,
+    args: &VpsArgs,
+    references: &VpsDependencies,
+) -> Result<(), AllocError>
+    requires args { AreVpsArgs args.now }
+    requires valid { Valid (pictures args.now.vps_max_layers_minus1 references.now.direct_dependency_flag) v.now }
+    ensures { OnOk result (out.new ≡ printed (pictures args.now.vps_max_layers_minus1 references.now.direct_dependency_flag) v.now out.old) }
+{
+    let flags = &references.direct_dependency_flag;
+    print_pictures(out, v, args.vps_max_layers_minus1, flags)
+}
+
 #[tactic(auto, unfolding(crate::specs::VpsExt::dpb_sizes, crate::specs::Sets::all_dpb_layers))]
 pub(crate) fn print_dpb_size_in(
     alloc: Global,
@@ -193,3 +237,16 @@ pub(crate) fn print_dpb_size_in(
     print_dpb_size(out, all, &layers)
 }
 
+pub(crate) fn print_types_in(
+    out: &mut Printer,
+    v: &VpsDependencyTypes,
+    args: &VpsArgs,
+    references: &VpsDependencies,
+) -> Result<(), AllocError>
+    requires args { AreVpsArgs args.now }
+    requires valid { Valid (types args.now.vps_max_layers_minus1 references.now.direct_dependency_flag) v.now }
+    ensures { OnOk result (out.new ≡ printed (types args.now.vps_max_layers_minus1 references.now.direct_dependency_flag) v.now out.old) }
+{
+    let flags = &references.direct_dependency_flag;
+    print_types(out, v, args.vps_max_layers_minus1, flags)
+}

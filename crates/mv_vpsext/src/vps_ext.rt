@@ -9,7 +9,7 @@ ghost use Rattle.mv_vpsext.specs.Derived.{derived};
 
 use crate::args::VpsArgs;
 use crate::dependencies::VpsDependencies;
-use crate::dependency_types::{VpsDependencyTypes, print_types, types_of};
+use crate::dependency_types::VpsDependencyTypes;
 use crate::derived::all_ols;
 use crate::dimensions::{VpsDimensions, dimensions_of, print_dimensions};
 use crate::dpb_sizes::DpbSizes;
@@ -17,10 +17,10 @@ use crate::ending::{VpsExtEnding, ending_of, print_ending};
 use crate::formats::{VpsFormats, formats_of, print_formats};
 use crate::output_sets::VpsOutputSets;
 use crate::parts::{
-    dependencies_in, dpb_size_in, infos_of, output_sets_in, print_dependencies_in,
-    print_dpb_size_in, print_output_sets_in, sets_of,
+    dependencies_in, dpb_size_in, infos_of, output_sets_in, pictures_in, print_dependencies_in,
+    print_dpb_size_in, print_output_sets_in, print_pictures_in, print_types_in, sets_of, types_in,
 };
-use crate::pictures::{VpsPictures, pictures_of, print_pictures};
+use crate::pictures::VpsPictures;
 use crate::profiles::{VpsProfiles, print_profiles, profiles_of};
 use mv_bits::{BitReader, BitWriter};
 use mv_fields::{Fault, Printer};
@@ -87,11 +87,10 @@ impl VpsExt {
         let (dependencies, layers) = dependencies_in(alloc, bits, args, &dimensions)?;
         let profiles = profiles_of(alloc, bits, sub_layers)?;
         let (output_sets, sets) = output_sets_in(alloc, bits, args, &layers, &profiles)?;
-        let flags = &dependencies.direct_dependency_flag;
         let formats = formats_of(alloc, bits, last)?;
-        let pictures = pictures_of(alloc, bits, last, flags)?;
+        let pictures = pictures_in(alloc, bits, args, &dependencies)?;
         let dpb_size = dpb_size_in(alloc, bits, args, &layers, &dependencies, &sets)?;
-        let dependency_types = types_of(alloc, bits, last, flags)?;
+        let dependency_types = types_in(alloc, bits, args, &dependencies)?;
         let ending = ending_of(alloc, bits)?;
         let sets = all_ols(alloc, sets, &dpb_size)?;
         let ext = VpsExt {
@@ -141,13 +140,12 @@ impl VpsExt {
         let sets = sets_of(alloc, args, &infos, &self.output_sets)?;
         let last = args.vps_max_layers_minus1;
         let sub_layers = args.vps_max_sub_layers_minus1;
-        let flags = &self.dependencies.direct_dependency_flag;
         print_dimensions(out, &self.dimensions, last, sub_layers)?;
         print_dependencies_in(out, &self.dependencies, args, &self.dimensions, &infos)?;
         print_profiles(out, &self.profiles, sub_layers)?;
         print_output_sets_in(out, &self.output_sets, args, &infos, &self.profiles)?;
         print_formats(out, &self.formats, last)?;
-        print_pictures(out, &self.pictures, last, flags)?;
+        print_pictures_in(out, &self.pictures, args, &self.dependencies)?;
         print_dpb_size_in(
             alloc,
             out,
@@ -157,7 +155,7 @@ impl VpsExt {
             &self.dependencies,
             &sets,
         )?;
-        print_types(out, &self.dependency_types, last, flags)?;
+        print_types_in(out, &self.dependency_types, args, &self.dependencies)?;
         print_ending(out, &self.ending)?;
         Ok(())
     }
