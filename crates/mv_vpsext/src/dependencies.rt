@@ -1,4 +1,4 @@
-ghost use Rattle.std.specs.Prelude.{◌≡◌, ◌≤◌, length, OnOk, IfOk, option_map};
+ghost use Rattle.std.specs.Prelude.{◌≡◌, ◌≤◌, OnOk, IfOk, option_map};
 ghost use Rattle.mv_syntax.specs.Table.{u, when, Valid};
 ghost use Rattle.mv_syntax.specs.Words.{◌!◌∶◌, is};
 ghost use Rattle.mv_syntax.specs.Printed.{printed};

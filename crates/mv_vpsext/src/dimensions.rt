@@ -1,4 +1,4 @@
-ghost use Rattle.std.specs.Prelude.{◌≡◌, ◌≢◌, ◌≤◌, ◌+◌, get_or, length, nat_eq, OnOk, IfOk, option_map};
+ghost use Rattle.std.specs.Prelude.{◌≡◌, ◌≤◌, ◌+◌, get_or, length, nat_eq, OnOk, IfOk, option_map};
 ghost use Rattle.std.specs.List.{list_any};
 ghost use Rattle.mv_vpsext.specs.declared.dimensions.VpsLayer.{VpsLayer as Layer};
 ghost use Rattle.mv_syntax.specs.Table.{u, named, when, Valid};

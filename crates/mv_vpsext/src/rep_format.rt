@@ -2,7 +2,7 @@ ghost use Rattle.std.specs.Prelude.{◌≡◌, OnOk};
 ghost use Rattle.mv_syntax.specs.Table.{u, when, Valid};
 ghost use Rattle.mv_syntax.specs.Printed.{printed};
 ghost use Rattle.mv_syntax.specs.Words.{◌!◌∶◌};
-ghost use Rattle.mv_fields.specs.Reading.{ReadsBy, ReadsAs};
+ghost use Rattle.mv_fields.specs.Reading.{ReadsBy};
 ghost use Rattle.mv_vpsext.specs.Formats.{no_side, lacks_chroma, chroma_and_depth, conformance_window, rep_format};
 ghost use Rattle.mv_rules.specs.declared.rule.Rule.TheVariants.{VpsLimit};
 
