@@ -1,4 +1,4 @@
-//! The parts of the extension that are read and printed from the parts before them.
+//! The parts of the extension, read and printed with its arguments: what each takes of them and of the parts before it.
 
 ghost use Rattle.std.specs.Prelude.{◌≡◌, ℕ, ◌≤◌, [], get_or, length, IfOk, OnOk};
 ghost use Rattle.mv_syntax.specs.Table.{Valid};
@@ -6,7 +6,10 @@ ghost use Rattle.mv_syntax.specs.Printed.{printed};
 ghost use Rattle.mv_syntax.specs.Words.{◌otherwise◌};
 ghost use Rattle.mv_fields.specs.Reading.{ReadsBy, ReadsAs};
 ghost use Rattle.mv_vpsext.specs.Args.{AreVpsArgs};
+ghost use Rattle.mv_vpsext.specs.Dimensions.{dimensions};
 ghost use Rattle.mv_vpsext.specs.Dependencies.{dependencies};
+ghost use Rattle.mv_vpsext.specs.Profiles.{profiles};
+ghost use Rattle.mv_vpsext.specs.Formats.{formats};
 ghost use Rattle.mv_vpsext.specs.Pictures.{pictures};
 ghost use Rattle.mv_vpsext.specs.DependencyTypes.{types};
 ghost use Rattle.mv_vpsext.specs.OutputSets.{output_sets};
@@ -15,13 +18,14 @@ ghost use Rattle.mv_vpsext.specs.VpsExt.{ext_layers, dpb_sizes};
 
 use crate::args::VpsArgs;
 use crate::dependencies::{VpsDependencies, dependencies_of, print_dependencies};
-use crate::dimensions::VpsDimensions;
+use crate::dimensions::{VpsDimensions, dimensions_of, print_dimensions};
 use crate::dependency_types::{VpsDependencyTypes, print_types, types_of};
 use crate::dpb_sizes::{DpbSizes, dpb_size_of, print_dpb_size};
+use crate::formats::{VpsFormats, formats_of, print_formats};
 use crate::layers::layers_described;
 use crate::output_sets::{VpsOutputSets, output_sets_of, print_output_sets};
 use crate::pictures::{VpsPictures, pictures_of, print_pictures};
-use crate::profiles::VpsProfiles;
+use crate::profiles::{VpsProfiles, print_profiles, profiles_of};
 use crate::sets::{all_dpb_layers_of, all_sets_of};
 use mv_bits::BitReader;
 use mv_fields::{Fault, Printer};
@@ -62,6 +66,13 @@ pub(crate) fn sets_of(
     all_sets_of(alloc, infos, args.layer_id_included_flag, outputs)
 }
 
+pub(crate) fn dimensions_in(alloc: Global, bits: &mut BitReader, args: &VpsArgs) -> Result<VpsDimensions, Fault<Rule>>
+    requires { AreVpsArgs args.now }
+    ensures { ReadsBy (dimensions args.now.vps_max_layers_minus1 args.now.vps_max_sub_layers_minus1) bits.old bits.new result }
+{
+    dimensions_of(alloc, bits, args.vps_max_layers_minus1, args.vps_max_sub_layers_minus1)
+}
+
 pub(crate) fn dependencies_in(
     alloc: Global,
     bits: &mut BitReader,
@@ -79,6 +90,13 @@ pub(crate) fn dependencies_in(
         scalability,
         args.layer_id_included_flag,
     )
+}
+
+pub(crate) fn profiles_in(alloc: Global, bits: &mut BitReader, args: &VpsArgs) -> Result<VpsProfiles, Fault<Rule>>
+    requires { AreVpsArgs args.now }
+    ensures { ReadsBy (profiles args.now.vps_max_sub_layers_minus1) bits.old bits.new result }
+{
+    profiles_of(alloc, bits, args.vps_max_sub_layers_minus1)
 }
 
 #[tactic(auto, using(crate::proofs::Bounds::flags_within))]
@@ -101,6 +119,13 @@ pub(crate) fn output_sets_in(
         args.layer_id_included_flag,
         levels.vps_num_profile_tier_level_minus1,
     )
+}
+
+pub(crate) fn formats_in(alloc: Global, bits: &mut BitReader, args: &VpsArgs) -> Result<VpsFormats, Fault<Rule>>
+    requires { AreVpsArgs args.now }
+    ensures { ReadsBy (formats args.now.vps_max_layers_minus1) bits.old bits.new result }
+{
+    formats_of(alloc, bits, args.vps_max_layers_minus1)
 }
 
 pub(crate) fn pictures_in(
@@ -153,6 +178,14 @@ pub(crate) fn types_in(
     types_of(alloc, bits, args.vps_max_layers_minus1, flags)
 }
 
+pub(crate) fn print_dimensions_in(out: &mut Printer, v: &VpsDimensions, args: &VpsArgs) -> Result<(), AllocError>
+    requires args { AreVpsArgs args.now }
+    requires valid { Valid (dimensions args.now.vps_max_layers_minus1 args.now.vps_max_sub_layers_minus1) v.now }
+    ensures { OnOk result (out.new ≡ printed (dimensions args.now.vps_max_layers_minus1 args.now.vps_max_sub_layers_minus1) v.now out.old) }
+{
+    print_dimensions(out, v, args.vps_max_layers_minus1, args.vps_max_sub_layers_minus1)
+}
+
 pub(crate) fn print_dependencies_in(
     out: &mut Printer,
     v: &VpsDependencies,
@@ -175,6 +208,14 @@ pub(crate) fn print_dependencies_in(
     )
 }
 
+pub(crate) fn print_profiles_in(out: &mut Printer, v: &VpsProfiles, args: &VpsArgs) -> Result<(), AllocError>
+    requires args { AreVpsArgs args.now }
+    requires valid { Valid (profiles args.now.vps_max_sub_layers_minus1) v.now }
+    ensures { OnOk result (out.new ≡ printed (profiles args.now.vps_max_sub_layers_minus1) v.now out.old) }
+{
+    print_profiles(out, v, args.vps_max_sub_layers_minus1)
+}
+
 #[tactic(auto, using(crate::proofs::Bounds::flags_within))]
 pub(crate) fn print_output_sets_in(
     out: &mut Printer,
@@ -195,6 +236,14 @@ pub(crate) fn print_output_sets_in(
         args.layer_id_included_flag,
         levels.vps_num_profile_tier_level_minus1,
     )
+}
+
+pub(crate) fn print_formats_in(out: &mut Printer, v: &VpsFormats, args: &VpsArgs) -> Result<(), AllocError>
+    requires args { AreVpsArgs args.now }
+    requires valid { Valid (formats args.now.vps_max_layers_minus1) v.now }
+    ensures { OnOk result (out.new ≡ printed (formats args.now.vps_max_layers_minus1) v.now out.old) }
+{
+    print_formats(out, v, args.vps_max_layers_minus1)
 }
 
 pub(crate) fn print_pictures_in(

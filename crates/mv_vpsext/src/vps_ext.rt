@@ -11,17 +11,19 @@ use crate::args::VpsArgs;
 use crate::dependencies::VpsDependencies;
 use crate::dependency_types::VpsDependencyTypes;
 use crate::derived::all_ols;
-use crate::dimensions::{VpsDimensions, dimensions_of, print_dimensions};
+use crate::dimensions::VpsDimensions;
 use crate::dpb_sizes::DpbSizes;
 use crate::ending::{VpsExtEnding, ending_of, print_ending};
-use crate::formats::{VpsFormats, formats_of, print_formats};
+use crate::formats::VpsFormats;
 use crate::output_sets::VpsOutputSets;
 use crate::parts::{
-    dependencies_in, dpb_size_in, infos_of, output_sets_in, pictures_in, print_dependencies_in,
-    print_dpb_size_in, print_output_sets_in, print_pictures_in, print_types_in, sets_of, types_in,
+    dependencies_in, dimensions_in, dpb_size_in, formats_in, infos_of, output_sets_in, pictures_in,
+    print_dependencies_in, print_dimensions_in, print_dpb_size_in, print_formats_in,
+    print_output_sets_in, print_pictures_in, print_profiles_in, print_types_in, profiles_in,
+    sets_of, types_in,
 };
 use crate::pictures::VpsPictures;
-use crate::profiles::{VpsProfiles, print_profiles, profiles_of};
+use crate::profiles::VpsProfiles;
 use mv_bits::{BitReader, BitWriter};
 use mv_fields::{Fault, Printer};
 use mv_layers::Derived;
@@ -81,13 +83,11 @@ impl VpsExt {
         ensures reads { ReadsAs (λ v. v.0) (vps_extension args.now) bits.old bits.new result }
         ensures derived { IfOk result (λ v. v.1 ≡ derived args.now v.0) }
     {
-        let last = args.vps_max_layers_minus1;
-        let sub_layers = args.vps_max_sub_layers_minus1;
-        let dimensions = dimensions_of(alloc, bits, last, sub_layers)?;
+        let dimensions = dimensions_in(alloc, bits, args)?;
         let (dependencies, layers) = dependencies_in(alloc, bits, args, &dimensions)?;
-        let profiles = profiles_of(alloc, bits, sub_layers)?;
+        let profiles = profiles_in(alloc, bits, args)?;
         let (output_sets, sets) = output_sets_in(alloc, bits, args, &layers, &profiles)?;
-        let formats = formats_of(alloc, bits, last)?;
+        let formats = formats_in(alloc, bits, args)?;
         let pictures = pictures_in(alloc, bits, args, &dependencies)?;
         let dpb_size = dpb_size_in(alloc, bits, args, &layers, &dependencies, &sets)?;
         let dependency_types = types_in(alloc, bits, args, &dependencies)?;
@@ -138,13 +138,11 @@ impl VpsExt {
         let alloc = *self.dpb_size.allocator();
         let infos = infos_of(alloc, args, &self.dimensions, &self.dependencies)?;
         let sets = sets_of(alloc, args, &infos, &self.output_sets)?;
-        let last = args.vps_max_layers_minus1;
-        let sub_layers = args.vps_max_sub_layers_minus1;
-        print_dimensions(out, &self.dimensions, last, sub_layers)?;
+        print_dimensions_in(out, &self.dimensions, args)?;
         print_dependencies_in(out, &self.dependencies, args, &self.dimensions, &infos)?;
-        print_profiles(out, &self.profiles, sub_layers)?;
+        print_profiles_in(out, &self.profiles, args)?;
         print_output_sets_in(out, &self.output_sets, args, &infos, &self.profiles)?;
-        print_formats(out, &self.formats, last)?;
+        print_formats_in(out, &self.formats, args)?;
         print_pictures_in(out, &self.pictures, args, &self.dependencies)?;
         print_dpb_size_in(
             alloc,
