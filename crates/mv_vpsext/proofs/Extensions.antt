@@ -1,5 +1,5 @@
 -- The parts of an extension read one behind the other: a fault in a part is one of the whole.
-use Rattle.std.proofs.Common.{◌≡◌, ℕ, ◌≤◌, Bool, List, get_or, Option, Some, None, Result, Ok, Err, IsErrAnd, ◌⊎◌, inl, inr, refl, subst, sym}
+use Rattle.std.proofs.Common.{◌≡◌, ℕ, ◌≤◌, Bool, List, get_or, Option, Some, None, Result, Ok, Err, IsErrAnd, inl, inr, refl, subst, sym}
 use Rattle.mv_syntax.specs.Bits.{Fault}
 use Rattle.mv_syntax.specs.Cursor.{Cursor}
 use Rattle.mv_syntax.specs.Table.{Table, Valid, Reads, Cut, read}

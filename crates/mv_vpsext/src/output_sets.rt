@@ -247,7 +247,10 @@ fn num_add_olss_of(bits: &mut BitReader, num_layer_sets: usize) -> Result<Option
 }
 
 // The next field default_output_layer_idc, where it is present.
-fn default_output_layer_idc_if(bits: &mut BitReader, present: bool) -> Result<Option<u8>, Fault<Rule>>
+fn default_output_layer_idc_if(
+    bits: &mut BitReader,
+    present: bool,
+) -> Result<Option<u8>, Fault<Rule>>
     ensures { ReadsBy (when present (u 2 ! ReservedOutput ∶ is 3)) bits.old bits.new result }
 {
     if !present {
@@ -354,7 +357,12 @@ fn print_profile_tier_level_idx(
 {
     let necessary = is_necessary_at(set, j);
     let width = clog2(vps_num_profile_tier_level_minus1 + 1, 8);
-    out.u8_if(necessary && vps_num_profile_tier_level_minus1 > 0, "profile_tier_level_idx", width, field)
+    out.u8_if(
+        necessary && vps_num_profile_tier_level_minus1 > 0,
+        "profile_tier_level_idx",
+        width,
+        field,
+    )
 }
 
 #[tactic(auto, using(mv_syntax::proofs::PrintingLoops::print_item_steps), unfolding(crate::specs::OutputSets::profile_tier_level_idxs))]

@@ -18,8 +18,8 @@ ghost use Rattle.mv_vpsext.specs.VpsExt.{ext_layers, dpb_sizes};
 
 use crate::args::VpsArgs;
 use crate::dependencies::{VpsDependencies, dependencies_of, print_dependencies};
-use crate::dimensions::{VpsDimensions, dimensions_of, print_dimensions};
 use crate::dependency_types::{VpsDependencyTypes, print_types, types_of};
+use crate::dimensions::{VpsDimensions, dimensions_of, print_dimensions};
 use crate::dpb_sizes::{DpbSizes, dpb_size_of, print_dpb_size};
 use crate::formats::{VpsFormats, formats_of, print_formats};
 use crate::layers::layers_described;
@@ -66,11 +66,20 @@ pub(crate) fn sets_of(
     all_sets_of(alloc, infos, args.layer_id_included_flag, outputs)
 }
 
-pub(crate) fn dimensions_in(alloc: Global, bits: &mut BitReader, args: &VpsArgs) -> Result<VpsDimensions, Fault<Rule>>
+pub(crate) fn dimensions_in(
+    alloc: Global,
+    bits: &mut BitReader,
+    args: &VpsArgs,
+) -> Result<VpsDimensions, Fault<Rule>>
     requires { AreVpsArgs args.now }
     ensures { ReadsBy (dimensions args.now.vps_max_layers_minus1 args.now.vps_max_sub_layers_minus1) bits.old bits.new result }
 {
-    dimensions_of(alloc, bits, args.vps_max_layers_minus1, args.vps_max_sub_layers_minus1)
+    dimensions_of(
+        alloc,
+        bits,
+        args.vps_max_layers_minus1,
+        args.vps_max_sub_layers_minus1,
+    )
 }
 
 pub(crate) fn dependencies_in(
@@ -92,7 +101,11 @@ pub(crate) fn dependencies_in(
     )
 }
 
-pub(crate) fn profiles_in(alloc: Global, bits: &mut BitReader, args: &VpsArgs) -> Result<VpsProfiles, Fault<Rule>>
+pub(crate) fn profiles_in(
+    alloc: Global,
+    bits: &mut BitReader,
+    args: &VpsArgs,
+) -> Result<VpsProfiles, Fault<Rule>>
     requires { AreVpsArgs args.now }
     ensures { ReadsBy (profiles args.now.vps_max_sub_layers_minus1) bits.old bits.new result }
 {
@@ -121,7 +134,11 @@ pub(crate) fn output_sets_in(
     )
 }
 
-pub(crate) fn formats_in(alloc: Global, bits: &mut BitReader, args: &VpsArgs) -> Result<VpsFormats, Fault<Rule>>
+pub(crate) fn formats_in(
+    alloc: Global,
+    bits: &mut BitReader,
+    args: &VpsArgs,
+) -> Result<VpsFormats, Fault<Rule>>
     requires { AreVpsArgs args.now }
     ensures { ReadsBy (formats args.now.vps_max_layers_minus1) bits.old bits.new result }
 {
@@ -178,12 +195,21 @@ pub(crate) fn types_in(
     types_of(alloc, bits, args.vps_max_layers_minus1, flags)
 }
 
-pub(crate) fn print_dimensions_in(out: &mut Printer, v: &VpsDimensions, args: &VpsArgs) -> Result<(), AllocError>
+pub(crate) fn print_dimensions_in(
+    out: &mut Printer,
+    v: &VpsDimensions,
+    args: &VpsArgs,
+) -> Result<(), AllocError>
     requires args { AreVpsArgs args.now }
     requires valid { Valid (dimensions args.now.vps_max_layers_minus1 args.now.vps_max_sub_layers_minus1) v.now }
     ensures { OnOk result (out.new ≡ printed (dimensions args.now.vps_max_layers_minus1 args.now.vps_max_sub_layers_minus1) v.now out.old) }
 {
-    print_dimensions(out, v, args.vps_max_layers_minus1, args.vps_max_sub_layers_minus1)
+    print_dimensions(
+        out,
+        v,
+        args.vps_max_layers_minus1,
+        args.vps_max_sub_layers_minus1,
+    )
 }
 
 pub(crate) fn print_dependencies_in(
@@ -208,7 +234,11 @@ pub(crate) fn print_dependencies_in(
     )
 }
 
-pub(crate) fn print_profiles_in(out: &mut Printer, v: &VpsProfiles, args: &VpsArgs) -> Result<(), AllocError>
+pub(crate) fn print_profiles_in(
+    out: &mut Printer,
+    v: &VpsProfiles,
+    args: &VpsArgs,
+) -> Result<(), AllocError>
     requires args { AreVpsArgs args.now }
     requires valid { Valid (profiles args.now.vps_max_sub_layers_minus1) v.now }
     ensures { OnOk result (out.new ≡ printed (profiles args.now.vps_max_sub_layers_minus1) v.now out.old) }
@@ -238,7 +268,11 @@ pub(crate) fn print_output_sets_in(
     )
 }
 
-pub(crate) fn print_formats_in(out: &mut Printer, v: &VpsFormats, args: &VpsArgs) -> Result<(), AllocError>
+pub(crate) fn print_formats_in(
+    out: &mut Printer,
+    v: &VpsFormats,
+    args: &VpsArgs,
+) -> Result<(), AllocError>
     requires args { AreVpsArgs args.now }
     requires valid { Valid (formats args.now.vps_max_layers_minus1) v.now }
     ensures { OnOk result (out.new ≡ printed (formats args.now.vps_max_layers_minus1) v.now out.old) }
