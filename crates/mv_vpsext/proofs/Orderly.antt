@@ -1,17 +1,17 @@
 -- What a valid extension describes is orderly: its nuh_layer_id rise, and no layer set breaks a rule.
-use Rattle.std.proofs.Common.{◌≡◌, ℕ, zero, suc, ◌+◌, ◌<◌, ◌≤◌, leb, nat_eq, Bool, true, false, ◌||◌, List, [], ◌∷◌, get_or, length, map, take, Option, Some, None, refl, sym, ap, ap₂, ◌∙◌, subst, arith}
+use Rattle.std.proofs.Common.{◌≡◌, ℕ, zero, suc, ◌+◌, ◌<◌, ◌≤◌, leb, nat_eq, Bool, true, false, ◌||◌, List, [], ◌∷◌, get_or, length, map, take, Option, Some, None, refl, sym, ap, ◌∙◌, subst, arith}
 use Rattle.std.specs.List.{All, list_any, enumerate_from, range_with_len}
 use Rattle.std.specs.List.Sorted.{IsStrictlyIncreasing}
 use Rattle.std.proofs.lemmas.Bool.{true≢false, leb-false}
 use Rattle.std.proofs.lemmas.List.{get_or-take, length-take-le}
 use Rattle.std.proofs.lemmas.List.Elements.{All-cons, All-head, All-tail, All-map, All-nil}
 use Rattle.std.proofs.lemmas.List.FromFn.{get_or-map-range_with_len, length-map-range_with_len}
-use Rattle.mv_syntax.specs.Table.{when, refused, u, Valid}
-use Rattle.mv_syntax.specs.Words.{◌!◌∶◌, ◌otherwise◌, or_zero, is_set}
+use Rattle.mv_syntax.specs.Table.{when, u, Valid}
+use Rattle.mv_syntax.specs.Words.{◌!◌∶◌, ◌otherwise◌, or_zero}
 use Rattle.mv_syntax.proofs.LoopLaws.{items_after-length, items_after-valid}
 use Rattle.mv_layers.specs.LayerInfos.{LayerInfoValue, CodedLayers, layer_infos}
 use Rattle.mv_layers.specs.LayerSets.{not_closed, has_unknown}
-use Rattle.mv_layers.specs.OutputLayers.{OlsLayers, layer_set_of}
+use Rattle.mv_layers.specs.OutputLayers.{layer_set_of}
 use Rattle.mv_layers.specs.Derived.{ols_value, IsOrderlySet, IsOrderly}
 use Rattle.mv_layers.proofs.LayerLaws.{ids_rise, orderly_layers}
 use Rattle.mv_layers.proofs.SetLaws.{orderly_sets}
@@ -20,7 +20,7 @@ use Rattle.mv_vpsext.specs.Args.{VpsArgsValue}
 use Rattle.mv_vpsext.specs.Layers.{plain_layer, nuh_layer_id, coded_layers, layers_described}
 use Rattle.mv_vpsext.specs.Dimensions.{VpsDimensionsValue, no_layer_id, vps_layer, vps_layers, dimensions}
 use Rattle.mv_vpsext.specs.Dependencies.{VpsDependenciesValue, added_layer_sets, dependencies}
-use Rattle.mv_vpsext.specs.OutputSets.{OutputLayerSetValue, VpsOutputSetsValue}
+use Rattle.mv_vpsext.specs.OutputSets.{VpsOutputSetsValue}
 use Rattle.mv_vpsext.specs.Sets.{base_set, coded_set, coded_sets, all_sets}
 use Rattle.mv_vpsext.specs.DpbSizes.{DpbSetValue}
 use Rattle.mv_vpsext.specs.Derived.{reorder, numbered_ols, all_ols, derived}

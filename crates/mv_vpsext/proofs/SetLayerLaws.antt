@@ -1,5 +1,5 @@
 -- The greatest sub-layer of a set of layers is at most 6.
-use Rattle.std.proofs.Common.{◌≡◌, ℕ, zero, suc, ◌≤◌, max, List, [], ◌∷◌, get_or, length, map, Option, Some, None, option_map, refl, ap, arith}
+use Rattle.std.proofs.Common.{ℕ, zero, suc, ◌≤◌, max, List, [], ◌∷◌, get_or, map, Option, Some, None, option_map, arith}
 use Rattle.std.specs.List.{fold}
 use Rattle.mv_syntax.specs.Words.{◌otherwise◌}
 use Rattle.mv_layers.specs.LayerInfos.{LayerInfoValue, layer_index}
@@ -27,7 +27,3 @@ pub all_small : (f : OlsLayers → DpbLayers) → ((set : OlsLayers) → (f set)
 all_small f small [] k = omega arith
 all_small f small (set ∷ sets) zero = small set
 all_small f small (set ∷ sets) (suc k) = all_small f small sets k
-
-pub length-map : {A B : Type 0} (f : A → B) (xs : List A) → length (map f xs) ≡ length xs
-length-map f [] = refl
-length-map f (x ∷ xs) = ap suc (length-map f xs)

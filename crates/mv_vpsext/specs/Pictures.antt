@@ -1,6 +1,6 @@
 -- vps_extension (F.7.3.2.1.1), sixth part, up to poc_lsb_not_present_flag: what holds of the pictures of a layer.
 use Rattle.std.specs.Prelude.{ℕ, List, Option, refl}
-use Rattle.mv_syntax.specs.Table.{Table, ◌>>=◌, u, named, when, shaped}
+use Rattle.mv_syntax.specs.Table.{Table, u, named, when, shaped}
 use Rattle.mv_syntax.specs.Words.{◌▸◌, ◌>>◌}
 use Rattle.mv_syntax.specs.Loops.{items}
 use Rattle.mv_layers.specs.References.{independent}

@@ -1,7 +1,7 @@
 -- vps_extension (F.7.3.2.1.1), third part, the list of profile_tier_level.
 use Rattle.std.specs.Prelude.{ℕ, ◌-◌, List, refl}
 use Rattle.mv_syntax.specs.Table.{Table, ◌>>=◌, u, ue, named, shaped}
-use Rattle.mv_syntax.specs.Words.{◌under◌, ◌▸◌, ◌>>◌, ◌!◌∶◌, over, is_set}
+use Rattle.mv_syntax.specs.Words.{◌under◌, ◌▸◌, ◌!◌∶◌, over, is_set}
 use Rattle.mv_syntax.specs.Loops.{items}
 use Rattle.mv_rules.specs.declared.rule.Rule.TheVariants.{VpsLimit}
 use Rattle.mv_common.specs.ProfileTier.{ProfileTierValue, profile_tier_level}

@@ -1,5 +1,5 @@
 -- The output layer sets of a video parameter set (F.7.4.3.1.1), from the values of its extension.
-use Rattle.std.specs.Prelude.{ℕ, ◌+◌, max, List, [], ◌∷◌, length, map, Option, None, option_map}
+use Rattle.std.specs.Prelude.{ℕ, max, List, [], ◌∷◌, map, Option, option_map}
 use Rattle.std.specs.List.{fold, enumerate_from}
 use Rattle.mv_syntax.specs.Words.{or_zero, ◌otherwise◌}
 use Rattle.mv_layers.specs.LayerInfos.{LayerInfoValue, layer_index}

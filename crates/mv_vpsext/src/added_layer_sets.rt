@@ -3,7 +3,7 @@
 ghost use Rattle.std.specs.Prelude.{◌≡◌, OnOk};
 ghost use Rattle.mv_syntax.specs.Table.{Valid};
 ghost use Rattle.mv_syntax.specs.Printed.{printed};
-ghost use Rattle.mv_fields.specs.Reading.{ReadsBy, ReadsAs};
+ghost use Rattle.mv_fields.specs.Reading.{ReadsBy};
 ghost use Rattle.mv_vpsext.specs.Dependencies.{added_layer_sets};
 
 use mv_bits::BitReader;

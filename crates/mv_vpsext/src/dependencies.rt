@@ -1,4 +1,4 @@
-ghost use Rattle.std.specs.Prelude.{◌≡◌, ◌≤◌, length, OnOk, IfOk, option_map};
+ghost use Rattle.std.specs.Prelude.{◌≡◌, ◌≤◌, OnOk, IfOk, option_map};
 ghost use Rattle.mv_syntax.specs.Table.{u, when, Valid};
 ghost use Rattle.mv_syntax.specs.Words.{◌!◌∶◌, is};
 ghost use Rattle.mv_syntax.specs.Printed.{printed};
@@ -426,7 +426,10 @@ pub(crate) fn print_dependencies(
     let tids_coded = v.max_tid_ref_present_flag == 1;
     print_dependency_flags(out, flags, vps_max_layers_minus1)?;
     print_added_layer_sets(out, v.num_add_layer_sets, infos, sets)?;
-    out.flag("vps_sub_layers_max_minus1_present_flag", v.vps_sub_layers_max_minus1_present_flag)?;
+    out.flag(
+        "vps_sub_layers_max_minus1_present_flag",
+        v.vps_sub_layers_max_minus1_present_flag,
+    )?;
     print_all_sub_layers_max_if(
         out,
         sub_layers_coded,
@@ -441,6 +444,9 @@ pub(crate) fn print_dependencies(
         vps_max_layers_minus1,
         flags,
     )?;
-    out.flag("default_ref_layers_active_flag", v.default_ref_layers_active_flag)?;
+    out.flag(
+        "default_ref_layers_active_flag",
+        v.default_ref_layers_active_flag,
+    )?;
     Ok(())
 }

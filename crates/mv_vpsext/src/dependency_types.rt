@@ -270,7 +270,10 @@ pub(crate) fn print_types(
     let width = v.direct_dep_type_len_minus2 as u8 + 2;
     let all = v.direct_dependency_all_layers_flag == 1;
     out.ue("direct_dep_type_len_minus2", v.direct_dep_type_len_minus2)?;
-    out.flag("direct_dependency_all_layers_flag", v.direct_dependency_all_layers_flag)?;
+    out.flag(
+        "direct_dependency_all_layers_flag",
+        v.direct_dependency_all_layers_flag,
+    )?;
     out.u32_within_if(
         all,
         "direct_dependency_all_layers_type",

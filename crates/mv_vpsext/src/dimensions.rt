@@ -1,4 +1,4 @@
-ghost use Rattle.std.specs.Prelude.{◌≡◌, ◌≢◌, ◌≤◌, ◌+◌, get_or, length, nat_eq, OnOk, IfOk, option_map};
+ghost use Rattle.std.specs.Prelude.{◌≡◌, ◌≤◌, ◌+◌, get_or, length, nat_eq, OnOk, IfOk, option_map};
 ghost use Rattle.std.specs.List.{list_any};
 ghost use Rattle.mv_vpsext.specs.declared.dimensions.VpsLayer.{VpsLayer as Layer};
 ghost use Rattle.mv_syntax.specs.Table.{u, named, when, Valid};
@@ -10,7 +10,7 @@ ghost use Rattle.mv_vpsext.specs.Dimensions.{mask_rule, mask_breaks, mask_flag, 
 ghost use Rattle.mv_rules.specs.declared.rule.Rule.TheVariants.{SameView, VpsLimit};
 
 use crate::layers::nuh_layer_id;
-use crate::shared::{profile_tier_if, print_profile_tier_if};
+use crate::shared::{print_profile_tier_if, profile_tier_if};
 use mv_bits::BitReader;
 use mv_common::ProfileTier;
 use mv_fields::{Fault, Printer, u8_of, u16_of, unset_flag};
@@ -483,8 +483,16 @@ pub(crate) fn print_dimensions(
     )?;
     out.flag("splitting_flag", v.splitting_flag)?;
     print_mask_flags(out, &v.scalability_mask_flag, vps_max_layers_minus1)?;
-    out.u8_if(views, "dimension_id_len_minus1", 3, v.dimension_id_len_minus1)?;
-    out.flag("vps_nuh_layer_id_present_flag", v.vps_nuh_layer_id_present_flag)?;
+    out.u8_if(
+        views,
+        "dimension_id_len_minus1",
+        3,
+        v.dimension_id_len_minus1,
+    )?;
+    out.flag(
+        "vps_nuh_layer_id_present_flag",
+        v.vps_nuh_layer_id_present_flag,
+    )?;
     print_vps_layers(out, &v.layers, vps_max_layers_minus1, coded, width)?;
     out.u8("view_id_len", 4, v.view_id_len)?;
     print_view_id_vals_if(

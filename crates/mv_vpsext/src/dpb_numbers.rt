@@ -44,7 +44,11 @@ fn holds_at(conditions: &[bool], k: usize) -> bool
 }
 
 #[tactic(auto, unfolding(crate::specs::DpbSizes::buffering))]
-fn buffering_of(bits: &mut BitReader, necessary: &[bool], k: usize) -> Result<Option<u32>, Fault<Rule>>
+fn buffering_of(
+    bits: &mut BitReader,
+    necessary: &[bool],
+    k: usize,
+) -> Result<Option<u32>, Fault<Rule>>
     ensures { ReadsBy (buffering necessary.now k) bits.old bits.new result }
 {
     Ok(ue_if(bits, holds_at(necessary, k))?)
@@ -108,7 +112,11 @@ fn print_buffering(
     requires { Valid (buffering necessary.now k) field }
     ensures { OnOk result (out.new ≡ printed (buffering necessary.now k) field out.old) }
 {
-    out.ue_if(holds_at(necessary, k), "max_vps_dec_pic_buffering_minus1", field)
+    out.ue_if(
+        holds_at(necessary, k),
+        "max_vps_dec_pic_buffering_minus1",
+        field,
+    )
 }
 
 #[tactic(auto, using(mv_syntax::proofs::PrintingLoops::print_item_steps), unfolding(crate::specs::DpbSizes::bufferings))]
@@ -139,7 +147,10 @@ fn print_dpb_numbers(
 {
     print_bufferings(out, &v.max_vps_dec_pic_buffering_minus1, necessary)?;
     out.ue("max_vps_num_reorder_pics", v.max_vps_num_reorder_pics)?;
-    out.ue("max_vps_latency_increase_plus1", v.max_vps_latency_increase_plus1)?;
+    out.ue(
+        "max_vps_latency_increase_plus1",
+        v.max_vps_latency_increase_plus1,
+    )?;
     Ok(())
 }
 

@@ -131,7 +131,11 @@ fn print_dpb_sub_layer(
 {
     let asked = j > 0 && sub_layer_flag_info_present_flag == 1;
     let present = j == 0 || coded_set(v.sub_layer_dpb_info_present_flag);
-    out.flag_if(asked, "sub_layer_dpb_info_present_flag", v.sub_layer_dpb_info_present_flag)?;
+    out.flag_if(
+        asked,
+        "sub_layer_dpb_info_present_flag",
+        v.sub_layer_dpb_info_present_flag,
+    )?;
     print_dpb_numbers_if(out, present, &v.numbers, necessary)?;
     Ok(())
 }
@@ -160,7 +164,10 @@ fn print_dpb_set(out: &mut Printer, v: &DpbSizes, set: &SetLayers) -> Result<(),
     requires { Valid (dpb_set set.now) v.now }
     ensures { OnOk result (out.new ≡ printed (dpb_set set.now) v.now out.old) }
 {
-    out.flag("sub_layer_flag_info_present_flag", v.sub_layer_flag_info_present_flag)?;
+    out.flag(
+        "sub_layer_flag_info_present_flag",
+        v.sub_layer_flag_info_present_flag,
+    )?;
     print_dpb_sub_layers(out, &v.sub_layers, set, v.sub_layer_flag_info_present_flag)?;
     Ok(())
 }

@@ -166,7 +166,11 @@ fn print_rep_format_idx(
     requires valid { Valid (rep_format_idx vps_num_rep_formats_minus1 i) field }
     ensures { OnOk result (out.new ≡ printed (rep_format_idx vps_num_rep_formats_minus1 i) field out.old) }
 {
-    out.u8("vps_rep_format_idx", clog2(vps_num_rep_formats_minus1 + 1, 8), field)
+    out.u8(
+        "vps_rep_format_idx",
+        clog2(vps_num_rep_formats_minus1 + 1, 8),
+        field,
+    )
 }
 
 #[tactic(auto, using(mv_syntax::proofs::PrintingLoops::print_item_steps), unfolding(crate::specs::Formats::rep_format_idxs))]
@@ -224,7 +228,11 @@ pub(crate) fn print_formats(
     let coded = coded_set(v.rep_format_idx_present_flag);
     out.ue("vps_num_rep_formats_minus1", minus1)?;
     print_rep_formats(out, &v.rep_formats, minus1)?;
-    out.flag_if(minus1 > 0, "rep_format_idx_present_flag", v.rep_format_idx_present_flag)?;
+    out.flag_if(
+        minus1 > 0,
+        "rep_format_idx_present_flag",
+        v.rep_format_idx_present_flag,
+    )?;
     print_rep_format_idxs_if(
         out,
         coded,

@@ -1,6 +1,6 @@
 //! The layers that the first part of the extension and the dependency flags describe.
 
-ghost use Rattle.std.specs.Prelude.{◌≡◌, ◌+◌, ◌≤◌, length, map, IfOk, option_map};
+ghost use Rattle.std.specs.Prelude.{◌≡◌, ◌+◌, ◌≤◌, map, IfOk, option_map};
 ghost use Rattle.std.specs.List.{range_with_len};
 ghost use Rattle.mv_vpsext.specs.Layers.{nuh_layer_id, view_order_index, layers_described};
 

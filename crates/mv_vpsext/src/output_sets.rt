@@ -6,6 +6,7 @@ ghost use Rattle.mv_syntax.specs.Printed.{printed};
 ghost use Rattle.mv_syntax.specs.Words.{◌!◌∶◌, over, is, or_zero};
 ghost use Rattle.mv_fields.specs.Reading.{ReadsBy, ReadsAs};
 ghost use Rattle.mv_fields.specs.Widths.{clog2};
+ghost use Rattle.mv_layers.specs.OutputLayers.{ols_layers};
 ghost use Rattle.mv_vpsext.specs.Sets.{base_set, coded_set, coded_sets, all_sets};
 ghost use Rattle.mv_vpsext.specs.OutputSets.{profile_tier_level_idx, profile_tier_level_idxs, set_profiles, output_layer_set, output_layer_sets, past_output_sets, output_sets};
 ghost use Rattle.mv_rules.specs.declared.rule.Rule.TheVariants.{ReservedOutput, VpsLimit};
@@ -80,6 +81,21 @@ fn layer_set_idx_if(
     let width = clog2((num_layer_sets - 1) as u32, 8);
     let last = num_layer_sets.saturating_sub(2) as u8;
     Ok(Some(u8_within(bits, width, Rule::VpsLimit, last)?))
+}
+
+// The layers of output layer set i, at most 63.
+fn layers_of(
+    alloc: Global,
+    sets: &[LayerSet],
+    i: usize,
+    layer_set_idx_for_ols_minus1: Option<u8>,
+) -> Result<Vec<u8>, AllocError>
+    requires { (k : ℕ) → length (get_or sets.now k []) ≤ 63 }
+    ensures exact { IfOk result (λ v. v.items ≡ ols_layers sets.now i layer_set_idx_for_ols_minus1) }
+    ensures few { IfOk result (λ v. length v.items ≤ 63) }
+{
+    let layers = ols_layers(alloc, sets, i, layer_set_idx_for_ols_minus1)?;
+    Ok(layers)
 }
 
 #[tactic(auto, unfolding(crate::specs::OutputSets::profile_tier_level_idx))]
@@ -158,7 +174,7 @@ fn output_layer_set_of(
     let num_layer_sets = sets.len() + 1;
     let own = num_layer_sets > 2 && num_layer_sets <= i;
     let layer_set_idx_for_ols_minus1 = layer_set_idx_if(bits, own, num_layer_sets)?;
-    let layers = ols_layers(alloc, sets, i, layer_set_idx_for_ols_minus1)?;
+    let layers = layers_of(alloc, sets, i, layer_set_idx_for_ols_minus1)?;
     let flagged = num_layer_sets <= i || idc == 2;
     let output_layer_flag = u8s_if(alloc, bits, flagged, layers.len() as u32, 1)?;
     let outputs = ols_outputs(alloc, &layers, &output_layer_flag, idc)?;
@@ -231,7 +247,10 @@ fn num_add_olss_of(bits: &mut BitReader, num_layer_sets: usize) -> Result<Option
 }
 
 // The next field default_output_layer_idc, where it is present.
-fn default_output_layer_idc_if(bits: &mut BitReader, present: bool) -> Result<Option<u8>, Fault<Rule>>
+fn default_output_layer_idc_if(
+    bits: &mut BitReader,
+    present: bool,
+) -> Result<Option<u8>, Fault<Rule>>
     ensures { ReadsBy (when present (u 2 ! ReservedOutput ∶ is 3)) bits.old bits.new result }
 {
     if !present {
@@ -338,7 +357,12 @@ fn print_profile_tier_level_idx(
 {
     let necessary = is_necessary_at(set, j);
     let width = clog2(vps_num_profile_tier_level_minus1 + 1, 8);
-    out.u8_if(necessary && vps_num_profile_tier_level_minus1 > 0, "profile_tier_level_idx", width, field)
+    out.u8_if(
+        necessary && vps_num_profile_tier_level_minus1 > 0,
+        "profile_tier_level_idx",
+        width,
+        field,
+    )
 }
 
 #[tactic(auto, using(mv_syntax::proofs::PrintingLoops::print_item_steps), unfolding(crate::specs::OutputSets::profile_tier_level_idxs))]
@@ -407,7 +431,7 @@ fn print_output_layer_set(
     let num_layer_sets = sets.len() + 1;
     let own = num_layer_sets > 2 && num_layer_sets <= i;
     let flagged = num_layer_sets <= i || idc == 2;
-    let layers = ols_layers(alloc, sets, i, v.layer_set_idx_for_ols_minus1)?;
+    let layers = layers_of(alloc, sets, i, v.layer_set_idx_for_ols_minus1)?;
     let outputs = ols_outputs(alloc, &layers, &v.output_layer_flag, idc)?;
     print_layer_set_idx_if(out, own, v.layer_set_idx_for_ols_minus1, num_layer_sets)?;
     out.u8s_if(

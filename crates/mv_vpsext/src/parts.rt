@@ -1,4 +1,4 @@
-//! The parts of the extension that are read and printed from the parts before them.
+//! The parts of the extension, read and printed with its arguments: what each takes of them and of the parts before it.
 
 ghost use Rattle.std.specs.Prelude.{◌≡◌, ℕ, ◌≤◌, [], get_or, length, IfOk, OnOk};
 ghost use Rattle.mv_syntax.specs.Table.{Valid};
@@ -6,18 +6,26 @@ ghost use Rattle.mv_syntax.specs.Printed.{printed};
 ghost use Rattle.mv_syntax.specs.Words.{◌otherwise◌};
 ghost use Rattle.mv_fields.specs.Reading.{ReadsBy, ReadsAs};
 ghost use Rattle.mv_vpsext.specs.Args.{AreVpsArgs};
+ghost use Rattle.mv_vpsext.specs.Dimensions.{dimensions};
 ghost use Rattle.mv_vpsext.specs.Dependencies.{dependencies};
+ghost use Rattle.mv_vpsext.specs.Profiles.{profiles};
+ghost use Rattle.mv_vpsext.specs.Formats.{formats};
+ghost use Rattle.mv_vpsext.specs.Pictures.{pictures};
+ghost use Rattle.mv_vpsext.specs.DependencyTypes.{types};
 ghost use Rattle.mv_vpsext.specs.OutputSets.{output_sets};
 ghost use Rattle.mv_vpsext.specs.Sets.{all_sets};
 ghost use Rattle.mv_vpsext.specs.VpsExt.{ext_layers, dpb_sizes};
 
 use crate::args::VpsArgs;
 use crate::dependencies::{VpsDependencies, dependencies_of, print_dependencies};
-use crate::dimensions::VpsDimensions;
+use crate::dependency_types::{VpsDependencyTypes, print_types, types_of};
+use crate::dimensions::{VpsDimensions, dimensions_of, print_dimensions};
 use crate::dpb_sizes::{DpbSizes, dpb_size_of, print_dpb_size};
+use crate::formats::{VpsFormats, formats_of, print_formats};
 use crate::layers::layers_described;
 use crate::output_sets::{VpsOutputSets, output_sets_of, print_output_sets};
-use crate::profiles::VpsProfiles;
+use crate::pictures::{VpsPictures, pictures_of, print_pictures};
+use crate::profiles::{VpsProfiles, print_profiles, profiles_of};
 use crate::sets::{all_dpb_layers_of, all_sets_of};
 use mv_bits::BitReader;
 use mv_fields::{Fault, Printer};
@@ -58,6 +66,22 @@ pub(crate) fn sets_of(
     all_sets_of(alloc, infos, args.layer_id_included_flag, outputs)
 }
 
+pub(crate) fn dimensions_in(
+    alloc: Global,
+    bits: &mut BitReader,
+    args: &VpsArgs,
+) -> Result<VpsDimensions, Fault<Rule>>
+    requires { AreVpsArgs args.now }
+    ensures { ReadsBy (dimensions args.now.vps_max_layers_minus1 args.now.vps_max_sub_layers_minus1) bits.old bits.new result }
+{
+    dimensions_of(
+        alloc,
+        bits,
+        args.vps_max_layers_minus1,
+        args.vps_max_sub_layers_minus1,
+    )
+}
+
 pub(crate) fn dependencies_in(
     alloc: Global,
     bits: &mut BitReader,
@@ -75,6 +99,17 @@ pub(crate) fn dependencies_in(
         scalability,
         args.layer_id_included_flag,
     )
+}
+
+pub(crate) fn profiles_in(
+    alloc: Global,
+    bits: &mut BitReader,
+    args: &VpsArgs,
+) -> Result<VpsProfiles, Fault<Rule>>
+    requires { AreVpsArgs args.now }
+    ensures { ReadsBy (profiles args.now.vps_max_sub_layers_minus1) bits.old bits.new result }
+{
+    profiles_of(alloc, bits, args.vps_max_sub_layers_minus1)
 }
 
 #[tactic(auto, using(crate::proofs::Bounds::flags_within))]
@@ -97,6 +132,30 @@ pub(crate) fn output_sets_in(
         args.layer_id_included_flag,
         levels.vps_num_profile_tier_level_minus1,
     )
+}
+
+pub(crate) fn formats_in(
+    alloc: Global,
+    bits: &mut BitReader,
+    args: &VpsArgs,
+) -> Result<VpsFormats, Fault<Rule>>
+    requires { AreVpsArgs args.now }
+    ensures { ReadsBy (formats args.now.vps_max_layers_minus1) bits.old bits.new result }
+{
+    formats_of(alloc, bits, args.vps_max_layers_minus1)
+}
+
+pub(crate) fn pictures_in(
+    alloc: Global,
+    bits: &mut BitReader,
+    args: &VpsArgs,
+    references: &VpsDependencies,
+) -> Result<VpsPictures, Fault<Rule>>
+    requires { AreVpsArgs args.now }
+    ensures { ReadsBy (pictures args.now.vps_max_layers_minus1 references.now.direct_dependency_flag) bits.old bits.new result }
+{
+    let flags = &references.direct_dependency_flag;
+    pictures_of(alloc, bits, args.vps_max_layers_minus1, flags)
 }
 
 #[tactic(auto, unfolding(crate::specs::VpsExt::dpb_sizes, crate::specs::Sets::all_dpb_layers))]
@@ -123,6 +182,36 @@ pub(crate) fn dpb_size_in(
     dpb_size_of(alloc, bits, &layers)
 }
 
+pub(crate) fn types_in(
+    alloc: Global,
+    bits: &mut BitReader,
+    args: &VpsArgs,
+    references: &VpsDependencies,
+) -> Result<VpsDependencyTypes, Fault<Rule>>
+    requires { AreVpsArgs args.now }
+    ensures { ReadsBy (types args.now.vps_max_layers_minus1 references.now.direct_dependency_flag) bits.old bits.new result }
+{
+    let flags = &references.direct_dependency_flag;
+    types_of(alloc, bits, args.vps_max_layers_minus1, flags)
+}
+
+pub(crate) fn print_dimensions_in(
+    out: &mut Printer,
+    v: &VpsDimensions,
+    args: &VpsArgs,
+) -> Result<(), AllocError>
+    requires args { AreVpsArgs args.now }
+    requires valid { Valid (dimensions args.now.vps_max_layers_minus1 args.now.vps_max_sub_layers_minus1) v.now }
+    ensures { OnOk result (out.new ≡ printed (dimensions args.now.vps_max_layers_minus1 args.now.vps_max_sub_layers_minus1) v.now out.old) }
+{
+    print_dimensions(
+        out,
+        v,
+        args.vps_max_layers_minus1,
+        args.vps_max_sub_layers_minus1,
+    )
+}
+
 pub(crate) fn print_dependencies_in(
     out: &mut Printer,
     v: &VpsDependencies,
@@ -145,6 +234,18 @@ pub(crate) fn print_dependencies_in(
     )
 }
 
+pub(crate) fn print_profiles_in(
+    out: &mut Printer,
+    v: &VpsProfiles,
+    args: &VpsArgs,
+) -> Result<(), AllocError>
+    requires args { AreVpsArgs args.now }
+    requires valid { Valid (profiles args.now.vps_max_sub_layers_minus1) v.now }
+    ensures { OnOk result (out.new ≡ printed (profiles args.now.vps_max_sub_layers_minus1) v.now out.old) }
+{
+    print_profiles(out, v, args.vps_max_sub_layers_minus1)
+}
+
 #[tactic(auto, using(crate::proofs::Bounds::flags_within))]
 pub(crate) fn print_output_sets_in(
     out: &mut Printer,
@@ -165,6 +266,32 @@ pub(crate) fn print_output_sets_in(
         args.layer_id_included_flag,
         levels.vps_num_profile_tier_level_minus1,
     )
+}
+
+pub(crate) fn print_formats_in(
+    out: &mut Printer,
+    v: &VpsFormats,
+    args: &VpsArgs,
+) -> Result<(), AllocError>
+    requires args { AreVpsArgs args.now }
+    requires valid { Valid (formats args.now.vps_max_layers_minus1) v.now }
+    ensures { OnOk result (out.new ≡ printed (formats args.now.vps_max_layers_minus1) v.now out.old) }
+{
+    print_formats(out, v, args.vps_max_layers_minus1)
+}
+
+pub(crate) fn print_pictures_in(
+    out: &mut Printer,
+    v: &VpsPictures,
+    args: &VpsArgs,
+    references: &VpsDependencies,
+) -> Result<(), AllocError>
+    requires args { AreVpsArgs args.now }
+    requires valid { Valid (pictures args.now.vps_max_layers_minus1 references.now.direct_dependency_flag) v.now }
+    ensures { OnOk result (out.new ≡ printed (pictures args.now.vps_max_layers_minus1 references.now.direct_dependency_flag) v.now out.old) }
+{
+    let flags = &references.direct_dependency_flag;
+    print_pictures(out, v, args.vps_max_layers_minus1, flags)
 }
 
 #[tactic(auto, unfolding(crate::specs::VpsExt::dpb_sizes, crate::specs::Sets::all_dpb_layers))]
@@ -193,3 +320,16 @@ pub(crate) fn print_dpb_size_in(
     print_dpb_size(out, all, &layers)
 }
 
+pub(crate) fn print_types_in(
+    out: &mut Printer,
+    v: &VpsDependencyTypes,
+    args: &VpsArgs,
+    references: &VpsDependencies,
+) -> Result<(), AllocError>
+    requires args { AreVpsArgs args.now }
+    requires valid { Valid (types args.now.vps_max_layers_minus1 references.now.direct_dependency_flag) v.now }
+    ensures { OnOk result (out.new ≡ printed (types args.now.vps_max_layers_minus1 references.now.direct_dependency_flag) v.now out.old) }
+{
+    let flags = &references.direct_dependency_flag;
+    print_types(out, v, args.vps_max_layers_minus1, flags)
+}

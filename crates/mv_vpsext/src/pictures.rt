@@ -131,7 +131,10 @@ pub(crate) fn print_pictures(
     requires valid { Valid (pictures vps_max_layers_minus1 flags.now) v.now }
     ensures { OnOk result (out.new ≡ printed (pictures vps_max_layers_minus1 flags.now) v.now out.old) }
 {
-    out.flag("max_one_active_ref_layer_flag", v.max_one_active_ref_layer_flag)?;
+    out.flag(
+        "max_one_active_ref_layer_flag",
+        v.max_one_active_ref_layer_flag,
+    )?;
     out.flag("vps_poc_lsb_aligned_flag", v.vps_poc_lsb_aligned_flag)?;
     print_poc_lsbs_not_present(
         out,

@@ -161,7 +161,10 @@ pub(crate) fn print_profiles(
     requires valid { Valid (profiles vps_max_sub_layers_minus1) v.now }
     ensures { OnOk result (out.new ≡ printed (profiles vps_max_sub_layers_minus1) v.now out.old) }
 {
-    out.ue("vps_num_profile_tier_level_minus1", v.vps_num_profile_tier_level_minus1)?;
+    out.ue(
+        "vps_num_profile_tier_level_minus1",
+        v.vps_num_profile_tier_level_minus1,
+    )?;
     print_vps_profiles(
         out,
         &v.profiles,

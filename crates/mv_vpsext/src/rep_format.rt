@@ -2,7 +2,7 @@ ghost use Rattle.std.specs.Prelude.{◌≡◌, OnOk};
 ghost use Rattle.mv_syntax.specs.Table.{u, when, Valid};
 ghost use Rattle.mv_syntax.specs.Printed.{printed};
 ghost use Rattle.mv_syntax.specs.Words.{◌!◌∶◌};
-ghost use Rattle.mv_fields.specs.Reading.{ReadsBy, ReadsAs};
+ghost use Rattle.mv_fields.specs.Reading.{ReadsBy};
 ghost use Rattle.mv_vpsext.specs.Formats.{no_side, lacks_chroma, chroma_and_depth, conformance_window, rep_format};
 ghost use Rattle.mv_rules.specs.declared.rule.Rule.TheVariants.{VpsLimit};
 
@@ -150,7 +150,11 @@ fn print_chroma_and_depth(out: &mut Printer, v: &ChromaAndDepth) -> Result<(), A
         v.separate_colour_plane_vps_flag,
     )?;
     out.u8("bit_depth_vps_luma_minus8", 4, v.bit_depth_vps_luma_minus8)?;
-    out.u8("bit_depth_vps_chroma_minus8", 4, v.bit_depth_vps_chroma_minus8)?;
+    out.u8(
+        "bit_depth_vps_chroma_minus8",
+        4,
+        v.bit_depth_vps_chroma_minus8,
+    )?;
     Ok(())
 }
 
@@ -199,9 +203,20 @@ pub(crate) fn print_rep_format(out: &mut Printer, v: &RepFormat, i: usize) -> Re
     requires { Valid (rep_format i) v.now }
     ensures { OnOk result (out.new ≡ printed (rep_format i) v.now out.old) }
 {
-    out.u16("pic_width_vps_in_luma_samples", 16, v.pic_width_vps_in_luma_samples)?;
-    out.u16("pic_height_vps_in_luma_samples", 16, v.pic_height_vps_in_luma_samples)?;
-    out.flag("chroma_and_bit_depth_vps_present_flag", v.chroma_and_bit_depth_vps_present_flag)?;
+    out.u16(
+        "pic_width_vps_in_luma_samples",
+        16,
+        v.pic_width_vps_in_luma_samples,
+    )?;
+    out.u16(
+        "pic_height_vps_in_luma_samples",
+        16,
+        v.pic_height_vps_in_luma_samples,
+    )?;
+    out.flag(
+        "chroma_and_bit_depth_vps_present_flag",
+        v.chroma_and_bit_depth_vps_present_flag,
+    )?;
     print_chroma_and_depth_if(
         out,
         v.chroma_and_bit_depth_vps_present_flag == 1,

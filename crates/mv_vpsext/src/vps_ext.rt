@@ -9,19 +9,21 @@ ghost use Rattle.mv_vpsext.specs.Derived.{derived};
 
 use crate::args::VpsArgs;
 use crate::dependencies::VpsDependencies;
-use crate::dependency_types::{VpsDependencyTypes, print_types, types_of};
+use crate::dependency_types::VpsDependencyTypes;
 use crate::derived::all_ols;
-use crate::dimensions::{VpsDimensions, dimensions_of, print_dimensions};
+use crate::dimensions::VpsDimensions;
 use crate::dpb_sizes::DpbSizes;
 use crate::ending::{VpsExtEnding, ending_of, print_ending};
-use crate::formats::{VpsFormats, formats_of, print_formats};
+use crate::formats::VpsFormats;
 use crate::output_sets::VpsOutputSets;
 use crate::parts::{
-    dependencies_in, dpb_size_in, infos_of, output_sets_in, print_dependencies_in,
-    print_dpb_size_in, print_output_sets_in, sets_of,
+    dependencies_in, dimensions_in, dpb_size_in, formats_in, infos_of, output_sets_in, pictures_in,
+    print_dependencies_in, print_dimensions_in, print_dpb_size_in, print_formats_in,
+    print_output_sets_in, print_pictures_in, print_profiles_in, print_types_in, profiles_in,
+    sets_of, types_in,
 };
-use crate::pictures::{VpsPictures, pictures_of, print_pictures};
-use crate::profiles::{VpsProfiles, print_profiles, profiles_of};
+use crate::pictures::VpsPictures;
+use crate::profiles::VpsProfiles;
 use mv_bits::{BitReader, BitWriter};
 use mv_fields::{Fault, Printer};
 use mv_layers::Derived;
@@ -81,17 +83,14 @@ impl VpsExt {
         ensures reads { ReadsAs (λ v. v.0) (vps_extension args.now) bits.old bits.new result }
         ensures derived { IfOk result (λ v. v.1 ≡ derived args.now v.0) }
     {
-        let last = args.vps_max_layers_minus1;
-        let sub_layers = args.vps_max_sub_layers_minus1;
-        let dimensions = dimensions_of(alloc, bits, last, sub_layers)?;
+        let dimensions = dimensions_in(alloc, bits, args)?;
         let (dependencies, layers) = dependencies_in(alloc, bits, args, &dimensions)?;
-        let profiles = profiles_of(alloc, bits, sub_layers)?;
+        let profiles = profiles_in(alloc, bits, args)?;
         let (output_sets, sets) = output_sets_in(alloc, bits, args, &layers, &profiles)?;
-        let flags = &dependencies.direct_dependency_flag;
-        let formats = formats_of(alloc, bits, last)?;
-        let pictures = pictures_of(alloc, bits, last, flags)?;
+        let formats = formats_in(alloc, bits, args)?;
+        let pictures = pictures_in(alloc, bits, args, &dependencies)?;
         let dpb_size = dpb_size_in(alloc, bits, args, &layers, &dependencies, &sets)?;
-        let dependency_types = types_of(alloc, bits, last, flags)?;
+        let dependency_types = types_in(alloc, bits, args, &dependencies)?;
         let ending = ending_of(alloc, bits)?;
         let sets = all_ols(alloc, sets, &dpb_size)?;
         let ext = VpsExt {
@@ -139,15 +138,12 @@ impl VpsExt {
         let alloc = *self.dpb_size.allocator();
         let infos = infos_of(alloc, args, &self.dimensions, &self.dependencies)?;
         let sets = sets_of(alloc, args, &infos, &self.output_sets)?;
-        let last = args.vps_max_layers_minus1;
-        let sub_layers = args.vps_max_sub_layers_minus1;
-        let flags = &self.dependencies.direct_dependency_flag;
-        print_dimensions(out, &self.dimensions, last, sub_layers)?;
+        print_dimensions_in(out, &self.dimensions, args)?;
         print_dependencies_in(out, &self.dependencies, args, &self.dimensions, &infos)?;
-        print_profiles(out, &self.profiles, sub_layers)?;
+        print_profiles_in(out, &self.profiles, args)?;
         print_output_sets_in(out, &self.output_sets, args, &infos, &self.profiles)?;
-        print_formats(out, &self.formats, last)?;
-        print_pictures(out, &self.pictures, last, flags)?;
+        print_formats_in(out, &self.formats, args)?;
+        print_pictures_in(out, &self.pictures, args, &self.dependencies)?;
         print_dpb_size_in(
             alloc,
             out,
@@ -157,7 +153,7 @@ impl VpsExt {
             &self.dependencies,
             &sets,
         )?;
-        print_types(out, &self.dependency_types, last, flags)?;
+        print_types_in(out, &self.dependency_types, args, &self.dependencies)?;
         print_ending(out, &self.ending)?;
         Ok(())
     }

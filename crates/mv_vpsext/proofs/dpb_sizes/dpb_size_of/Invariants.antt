@@ -1,4 +1,4 @@
-use Rattle.std.proofs.Common.{◌≡◌, ◌-◌, length}
+use Rattle.std.proofs.Common.{◌≡◌}
 use Rattle.mv_syntax.specs.Table.{read}
 use Rattle.mv_syntax.specs.Loops.{rest_of_items}
 use Rattle.mv_vpsext.specs.DpbSizes.{dpb_of_set, dpb_size}

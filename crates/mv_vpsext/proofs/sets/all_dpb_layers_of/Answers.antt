@@ -1,6 +1,6 @@
-use Rattle.std.proofs.Common.{length, map, take, option_map, ap, ◌∙◌, sym, arith}
+use Rattle.std.proofs.Common.{take, option_map}
 use Rattle.mv_vpsext.specs.Sets.{dpb_layers}
-use Rattle.mv_vpsext.proofs.SetLayerLaws.{dpb_layers_small, all_small, length-map}
+use Rattle.mv_vpsext.proofs.SetLayerLaws.{dpb_layers_small, all_small}
 use Rattle.mv_vpsext.proofs.sets.all_dpb_layers_of.Goals as goal
 
 pub returns-clause-few : goal.returns-clause-few
