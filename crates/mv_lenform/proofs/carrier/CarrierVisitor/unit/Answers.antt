@@ -1,4 +1,4 @@
-use Rattle.std.proofs.Common.{◌≡◌, ◌+◌, ◌∷◌, [], ap, arith, inr, length, length-append, refl, sym, ◌∙◌, ◌++◌}
+use Rattle.std.proofs.Common.{◌∷◌, [], ap, arith, inr, length, length-append, refl, sym, ◌∙◌, ◌++◌}
 use Rattle.mv_bytestream.specs.Found.{found_unit}
 use Rattle.mv_engine.proofs.Written.{gained-part, gained-then}
 use Rattle.mv_lenform.specs.Carrying.{text, text_of}
@@ -13,7 +13,7 @@ returns-in-Ok g c = record {
   visits = λ start first us stands wrote counted.
       let u = found_unit c.args.found.now in (
         refl,
-        (stands.0, let next : c.in-Ok.new.self.count ≡ c.args.number + 1 = ? in omega (arith, counted, length-append us (u ∷ []))),
+        (stands.0, omega (arith, counted, length-append us (u ∷ []))),
         gained-then _ _ _ (text start.to us) (text_of c.args.self.now.to (u.bytes ∷ [])) _ wrote c.in-Ok.ensures.all c.in-Ok.ensures.cause.never_falls
             (text-push start.to us u ∙ ap (λ to. text start.to us ++ text_of to (u.bytes ∷ [])) (sym stands.0)),
       );
