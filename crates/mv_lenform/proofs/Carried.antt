@@ -1,10 +1,7 @@
 -- What one unit more changes in what is carried, and that nobody objects.
-use Rattle.std.proofs.Common.{◌≡◌, ℕ, ◌≤◌, Bool, true, false, cond, List, [], ◌∷◌, ◌++◌, length, map, None, Some, refl, ap, sym, ◌∙◌, append_assoc, append-nil}
+use Rattle.std.proofs.Common.{◌≡◌, ℕ, List, [], ◌∷◌, ◌++◌, length, map, refl, ap, sym, ◌∙◌, append_assoc, append-nil}
 use Rattle.std.specs.Int.{to_be_bytes, w32}
-use Rattle.std.proofs.lemmas.Bool.{ltb-false}
 use Rattle.std.proofs.lemmas.List.{map-append}
-use Rattle.mv_rules.specs.declared.rule.Rule.{Rule}
-use Rattle.mv_units.specs.Rules.{early_rule, emulation, long_unit, longest_unit, short_unit, unit_rule}
 use Rattle.mv_units.specs.Units.{NalUnit}
 use Rattle.mv_units.proofs.Framed.{frame-append}
 use Rattle.mv_judging.specs.Format.{Format, IsFormat}
@@ -33,19 +30,6 @@ text_of-append Framed us vs = frame-append us vs
 
 pub text-push : (to : Target) (us : List NalUnit) (u : NalUnit) → text to (us ++ u ∷ []) ≡ text to us ++ text_of to (u.bytes ∷ [])
 text-push to us u = ap (text_of to) (map-append (λ (u : NalUnit). u.bytes) us (u ∷ [])) ∙ text_of-append to (map (λ (u : NalUnit). u.bytes) us) (u.bytes ∷ [])
-
--- a unit that breaks no rule on its own bytes has no more than may be
-pub clean-length : (u : List ℕ) → unit_rule u ≡ None → length u ≤ longest_unit
-clean-length u clean = go (short_unit u) (emulation u) (long_unit u) refl refl refl
-  where
-    go : (a b c : Bool) → short_unit u ≡ a → emulation u ≡ b → long_unit u ≡ c → length u ≤ longest_unit
-    go true b c isa isb isc = absurd (let h : Some Rule.Short ≡ None = ap (λ t. cond t (Some Rule.Short) (early_rule u)) (sym isa) ∙ clean in cc)
-    go false true c isa isb isc = absurd (let h : Some Rule.Emulation ≡ None =
-        ap (λ t. cond t (Some Rule.Emulation) (cond (long_unit u) (Some Rule.Long) None)) (sym isb) ∙ ap (λ t. cond t (Some Rule.Short) (early_rule u)) (sym isa) ∙ clean in cc)
-    go false false true isa isb isc = absurd (let h : Some Rule.Long ≡ None =
-        ap (λ t. cond t (Some Rule.Long) None) (sym isc)
-        ∙ ap (λ t. cond t (Some Rule.Emulation) (cond (long_unit u) (Some Rule.Long) None)) (sym isb) ∙ ap (λ t. cond t (Some Rule.Short) (early_rule u)) (sym isa) ∙ clean in cc)
-    go false false false isa isb isc = ltb-false longest_unit (length u) isc
 
 -- a judge that objects to nothing
 pub nobody-sound : (f : Format) → IsFormat f → IsSound f nobody

@@ -2,4 +2,4 @@ pub mod Forms
 pub mod Fronts
 pub mod Packed
 pub mod ReadLaws
-mod Spelling
+pub mod Spelling

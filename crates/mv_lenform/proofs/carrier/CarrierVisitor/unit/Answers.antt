@@ -1,12 +1,13 @@
 use Rattle.std.proofs.Common.{◌∷◌, [], ap, arith, inr, length, length-append, refl, sym, ◌∙◌, ◌++◌}
 use Rattle.mv_bytestream.specs.Found.{found_unit}
+use Rattle.mv_units.proofs.Clean.{lawful}
 use Rattle.mv_engine.proofs.Written.{gained-part, gained-then}
 use Rattle.mv_lenform.specs.Carrying.{text, text_of}
-use Rattle.mv_lenform.proofs.Carried.{clean-length, text-push}
+use Rattle.mv_lenform.proofs.Carried.{text-push}
 use Rattle.mv_lenform.proofs.carrier.CarrierVisitor.unit.Goals as goal
 
 pub put-requires : goal.put-requires
-put-requires g c = clean-length c.args.found.now.unit.now c.requires.ready.clean
+put-requires g c = (lawful c.args.found.now.unit.now c.requires.ready.clean).most
 
 pub returns-in-Ok : goal.returns-in-Ok
 returns-in-Ok g c = record {
