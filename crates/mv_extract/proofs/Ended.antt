@@ -23,7 +23,7 @@ use Rattle.mv_engine.specs.Driven.{Driven}
 use Rattle.mv_engine.specs.Writing.{GainedPart, writing}
 use Rattle.mv_extract.specs.declared.error.ExtractError.{ExtractError}
 use Rattle.mv_extract.specs.declared.error.ExtractError.TheVariants.{Memory}
-use Rattle.mv_extract.specs.Answers.{Accepts, Answers, Decide, Refuses}
+use Rattle.mv_extract.specs.Answers.{Answers, Decide, Refuses}
 use Rattle.mv_extract.specs.Errors.{IsTold, StopsByRule}
 use Rattle.mv_extract.specs.Task.{Task, Worker, writer}
 

@@ -1,5 +1,5 @@
 -- What is packed is unpacked again, and what is unpacked packed, in the words of what the two calls accept and write.
-use Rattle.std.proofs.Common.{◌≡◌, ℕ, Bool, true, List, [], ◌∷◌, ◌++◌, take, Option, None, Some, All, refl, ap, sym, ◌∙◌}
+use Rattle.std.proofs.Common.{◌≡◌, ℕ, true, List, [], ◌∷◌, ◌++◌, take, Option, None, Some, All, refl, ap, sym, ◌∙◌}
 use Rattle.std.specs.Option.{option_or}
 use Rattle.mv_rules.specs.declared.refusal.Refusal.{Refusal}
 use Rattle.mv_units.specs.Framing.{frame}

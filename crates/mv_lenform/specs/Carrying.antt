@@ -1,6 +1,6 @@
 -- Carrying units from one form into another (this project's profile). Nothing but the form in which the units come
 -- refuses them.
-use Rattle.std.specs.Prelude.{◌≡◌, ℕ, List, [], length, map, None}
+use Rattle.std.specs.Prelude.{◌≡◌, ℕ, List, length, map, None}
 use Rattle.mv_units.specs.Framing.{frame}
 use Rattle.mv_units.specs.Units.{NalUnit}
 use Rattle.mv_judging.specs.Judge.{Judge}

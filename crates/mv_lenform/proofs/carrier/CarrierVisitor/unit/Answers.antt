@@ -1,4 +1,4 @@
-use Rattle.std.proofs.Common.{◌∷◌, [], ap, arith, inr, length, length-append, refl, sym, ◌∙◌, ◌++◌}
+use Rattle.std.proofs.Common.{◌∷◌, [], ap, arith, inr, length-append, refl, sym, ◌∙◌, ◌++◌}
 use Rattle.mv_bytestream.specs.Found.{found_unit}
 use Rattle.mv_units.proofs.Clean.{lawful}
 use Rattle.mv_engine.proofs.Written.{gained-part, gained-then}
