@@ -1,10 +1,11 @@
 //! Laws of what `pack` and `unpack` accept and write. Each function has an empty body, and its contract is the law.
 #![tactic(auto)]
 
-ghost use Rattle.std.specs.Prelude.{◌≡◌, ◌↔◌, ℕ, List, All, None, map, true};
+ghost use Rattle.std.specs.Prelude.{◌≡◌, ℕ, Bool, List, All, None, map};
+ghost use Rattle.std.specs.Option.{option_map};
 ghost use Rattle.mv_units.specs.Framing.{frame};
 ghost use Rattle.mv_units.specs.Units.{NalUnit, units};
-ghost use Rattle.mv_judging.specs.Event.{event};
+ghost use Rattle.mv_judging.specs.Event.{event, refused_at, seen};
 ghost use Rattle.mv_judging.specs.Format.{Format, byte_stream};
 ghost use Rattle.mv_prefixed.specs.Form.{length_form};
 ghost use Rattle.mv_prefixed.specs.LenForm.{IsPlain, lenform};
@@ -12,10 +13,10 @@ ghost use Rattle.mv_prefixed.specs.Reading.{len_units};
 ghost use Rattle.mv_lenform.specs.Carrying.{nobody, text};
 ghost use Rattle.mv_lenform.specs.declared.carrier.Target.{Target};
 
-/// What both calls accept (this project's profile): a string that its form doesn't refuse. For `unpack` these are the
-/// forms of plain units.
+/// What both calls refuse (this project's profile): what the form of their input shows, and nothing else. So `unpack`
+/// accepts exactly the forms of plain units.
 pub fn nobody_objects()
-    ensures accepted { (f : Format) (s : List ℕ) → (event f nobody s ≡ None) ↔ (f.shown true s ≡ None) }
+    ensures seen { (f : Format) (ended : Bool) (s : List ℕ) → seen f nobody ended s ≡ option_map refused_at (f.shown ended s) }
     ensures form { (us : List (List ℕ)) → All IsPlain us → event length_form nobody (lenform us) ≡ None }
     ensures only { (s : List ℕ) → event length_form nobody s ≡ None →
         All IsPlain (map (λ (u : NalUnit). u.bytes) (len_units s)) × (s ≡ lenform (map (λ (u : NalUnit). u.bytes) (len_units s))) }
