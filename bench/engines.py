@@ -4,7 +4,8 @@
 Streams: large units (900 KB), middle ones (250 KB), small ones (90 bytes), all of layer 0, with four-byte start codes;
 `unpack` is given the same units in the length-prefixed form. For each command and stream it prints MB/s and the ratio to
 `cat`, to nothing and to a pipe, the best of some runs; with --gigabyte the memory that each command takes at most on a
-stream of a gigabyte. Aims: 0.4 of `cat` for `extract 0` and 0.35 for the others to nothing on large units; 900 MB/s for
+stream of a gigabyte, and whether `pack | unpack` gives a gigabyte of framed units back, for which it ends with 1 where it
+doesn't. Aims: 0.4 of `cat` for `extract 0` and 0.35 for the others to nothing on large units; 900 MB/s for
 `extract 0` and 400 MB/s for the others on small ones.
 
 usage: bench/engines.py [--size MB] [--runs N] [--gigabyte] [COMMAND..]
@@ -94,11 +95,30 @@ def measure(command, path, asked):
         print(f"{command:8}at most {most / 1024:.1f} MiB of memory on a stream of a gigabyte, in units of 0.9 MB")
 
 
+def goes_round(path):
+    """Whether `pack | unpack` gives each stream of a gigabyte of framed units back, large and small ones."""
+    same = True
+    for name, size in (KINDS[0], KINDS[2]):
+        total = stream(path, size, 1_000_000_000, "pack")
+        start = time.perf_counter()
+        with open(path, "rb") as source:
+            pack = subprocess.Popen([PROGRAM, "pack"], stdin=source, stdout=subprocess.PIPE)
+            unpack = subprocess.Popen([PROGRAM, "unpack"], stdin=pack.stdout, stdout=subprocess.PIPE)
+            compare = subprocess.Popen(["cmp", "-", path], stdin=unpack.stdout)
+            pack.stdout.close()
+            unpack.stdout.close()
+            statuses = (compare.wait(), unpack.wait(), pack.wait())
+        spent = time.perf_counter() - start
+        print(f"pack | unpack of {total:,} bytes in {name} units: statuses {statuses}, {total / spent / 1e6:.0f} MB/s with cmp", flush=True)
+        same = same and statuses == (0, 0, 0)
+    return same
+
+
 def main():
     parser = argparse.ArgumentParser(description=__doc__.split("\n")[0])
     parser.add_argument("--size", type=int, default=200, help="megabytes a stream")
     parser.add_argument("--runs", type=int, default=5)
-    parser.add_argument("--gigabyte", action="store_true", help="also the memory on a gigabyte")
+    parser.add_argument("--gigabyte", action="store_true", help="also the memory on a gigabyte, and pack | unpack")
     parser.add_argument("commands", nargs="*", metavar="COMMAND", help="some of: " + ", ".join(COMMANDS))
     asked = parser.parse_args()
     if any(command not in COMMANDS for command in asked.commands):
@@ -108,6 +128,8 @@ def main():
     with tempfile.TemporaryDirectory() as folder:
         for command in asked.commands or COMMANDS:
             measure(command, os.path.join(folder, "stream"), asked)
+        if asked.gigabyte and not goes_round(os.path.join(folder, "stream")):
+            sys.exit(1)
 
 
 main()

@@ -5,17 +5,23 @@ use Rattle.mv_rules.specs.declared.refusal.Refusal.{Refusal}
 use Rattle.mv_io.specs.Source.{Told}
 use Rattle.mv_extract.specs.declared.error.ExtractError.{ExtractError}
 use Rattle.mv_extract.specs.declared.error.ExtractError.TheVariants.{Refused as RefusedBy, Read, Write, TooLong as TooManyBytes, Memory}
-use Rattle.mv_judging.specs.Event.{Due, due}
-use Rattle.mv_judging.specs.Format.{byte_stream}
-use Rattle.mv_extract.specs.Answers.{Answers as Extracts, IsDue}
-use Rattle.mv_extract.specs.Text.{heads}
+use Rattle.mv_units.specs.Units.{NalUnit}
+use Rattle.mv_judging.specs.Event.{Due}
+use Rattle.mv_judging.proofs.Streams.{stream-format}
+use Rattle.mv_prefixed.proofs.Forms.{form-of}
+use Rattle.mv_extract.specs.Answers.{Answers as Works, IsDue}
+use Rattle.mv_extract.specs.Text.{nothing}
+use Rattle.mv_extract.proofs.Ended.{IsSound}
 use Rattle.mv_io.specs.Call.{Input, Output}
 use Rattle.mv_extract.proofs.Settled.{settles}
+use Rattle.mv_extract.proofs.Sound.{heads-sound}
+use Rattle.mv_lenform.proofs.Carried.{nobody-sound}
 use Rattle.mv_cli.specs.declared.ending.Ending.{Ending}
 use Rattle.mv_cli.specs.declared.ending.Ending.TheVariants.{Done, Refused, Usage, ReadFault, WriteFault, NoMemory, TooLong}
+use Rattle.mv_cli.specs.declared.command.Command.{Command}
 use Rattle.mv_cli.specs.declared.command.Command.TheVariants.{Extract, Pack, Unpack}
-use Rattle.mv_cli.specs.Answers.{Answered, Caused, Headline, Tells, answer_status, due_status}
-use Rattle.mv_cli.specs.Ending.{line_of, refusal_line, status_of}
+use Rattle.mv_cli.specs.Answers.{Answered, Caused, Headline, Tells, answer_status, decided_by, due_status, form_of, task_of}
+use Rattle.mv_cli.specs.Ending.{ending_of, line_of, refusal_line, status_of}
 use Rattle.mv_cli.specs.Words.{Means}
 
 decided_status : (answer : Result ⊤ ExtractError) (what : Due) → IsDue what answer → (answer_status answer ≡ due_status what) ⊎ (answer_status answer ≡ 5)
@@ -26,27 +32,60 @@ decided_status (Err Write) what is = absurd is
 decided_status (Err TooManyBytes) what is = inl (ap due_status (sym is))
 decided_status (Err Memory) what is = inr refl
 
-by_status : (old : Option Told) (limit : ℕ) (answer : Result ⊤ ExtractError) → IfSome old (λ was. IsDue (due byte_stream heads limit was.left) answer) →
-    IfSome old (λ was. (answer_status answer ≡ due_status (due byte_stream heads limit was.left)) ⊎ (answer_status answer ≡ 5))
-by_status None limit answer h = tt
-by_status (Some was) limit answer h = decided_status answer (due byte_stream heads limit was.left) h
+by_status : (command : Command) (old : Option Told) (limit : ℕ) (answer : Result ⊤ ExtractError) → IfSome old (λ was. IsDue (decided_by command limit was.left) answer) →
+    IfSome old (λ was. (answer_status answer ≡ due_status (decided_by command limit was.left)) ⊎ (answer_status answer ≡ 5))
+by_status command None limit answer h = tt
+by_status command (Some was) limit answer h = decided_status answer (decided_by command limit was.left) h
+
+-- what a command objects to is by rules
+sound : (command : Command) → IsSound (form_of command) (task_of command).judge
+sound Extract = heads-sound
+sound Pack = nobody-sound _ stream-format
+sound Unpack = nobody-sound _ form-of
+
+-- the words of a command are no other command's
+only : (words : List (List ℕ)) (a b : Command) → Means words a → Means words b → a ≡ b
+only words Extract Extract first second = refl
+only words Extract Pack first second = absurd (let h : codes "extract" ∷ codes "0" ∷ [] ≡ codes "pack" ∷ [] = sym first ∙ second in cc)
+only words Extract Unpack first second = absurd (let h : codes "extract" ∷ codes "0" ∷ [] ≡ codes "unpack" ∷ [] = sym first ∙ second in cc)
+only words Pack Extract first second = absurd (let h : codes "pack" ∷ [] ≡ codes "extract" ∷ codes "0" ∷ [] = sym first ∙ second in cc)
+only words Pack Pack first second = refl
+only words Pack Unpack first second = absurd (let h : codes "pack" ∷ [] ≡ codes "unpack" ∷ [] = sym first ∙ second in cc)
+only words Unpack Extract first second = absurd (let h : codes "unpack" ∷ [] ≡ codes "extract" ∷ codes "0" ∷ [] = sym first ∙ second in cc)
+only words Unpack Pack first second = absurd (let h : codes "unpack" ∷ [] ≡ codes "pack" ∷ [] = sym first ∙ second in cc)
+only words Unpack Unpack first second = refl
+
+-- an ending by the answer of a command, less what is answered of the units
+forgets : {T : Type 0} (command : Command) (total : List NalUnit → T) (limit : ℕ) (input : Input) (output : Output) (answer : T) → Works (form_of command) (task_of command) total limit input output (Ok answer) → Works (form_of command) (task_of command) nothing limit input output (Ok tt)
+forgets command total limit input output answer accepts = record {
+  taken = accepts.taken;
+  took = accepts.took;
+  within = accepts.within;
+  accepted = accepts.accepted;
+  writes = accepts.writes;
+  answers = refl;
+}
+
+pub caused : {T : Type 0} (words : List (List ℕ)) (command : Command) (total : List NalUnit → T) (limit : ℕ) (input : Input) (output : Output) (answer : Result T ExtractError) → Means words command → Works (form_of command) (task_of command) total limit input output answer → Caused words limit input output (ending_of answer)
+caused words command total limit input output (Ok answer) means works = (command, means, forgets command total limit input output answer works)
+caused words command total limit input output (Err (RefusedBy refusal)) means works = (command, means, works)
+caused words command total limit input output (Err Read) means works = (command, means, works)
+caused words command total limit input output (Err Write) means works = (command, means, works)
+caused words command total limit input output (Err TooManyBytes) means works = (command, means, works)
+caused words command total limit input output (Err Memory) means works = (command, means, works)
 
 -- the line of a refusal, if that is the answer
 abbrev RefusalTold : Output → Result ⊤ ExtractError → Type 0
 RefusalTold faults answer = (refusal : Refusal) → answer ≡ Err (RefusedBy refusal) → Tells faults (refusal_line refusal)
-
--- the words of extraction are no other command's
-extracted : (words : List (List ℕ)) (limit : ℕ) (input : Input) (output : Output) (answer : Result ⊤ ExtractError) → Answered words limit input output answer → Means words Extract → Extracts limit input output answer
-extracted words limit input output answer (Extract, means, does) extract = does
-extracted words limit input output answer (Pack, means, does) extract = absurd (let h : codes "pack" ∷ [] ≡ codes "extract" ∷ codes "0" ∷ [] = sym means ∙ extract in cc)
-extracted words limit input output answer (Unpack, means, does) extract = absurd (let h : codes "unpack" ∷ [] ≡ codes "extract" ∷ codes "0" ∷ [] = sym means ∙ extract in cc)
 
 -- a command that answered
 headline_by : (words : List (List ℕ)) (limit : ℕ) (input : Input) (output faults : Output) (answer : Result ⊤ ExtractError) → Answered words limit input output answer → RefusalTold faults answer → Headline words limit input output faults (answer_status answer)
 headline_by words limit input output faults answer answered told = record {
   succeeds = λ e. accepts answer answered e;
   refused = λ e. refuses answer answered told e;
-  decided = λ extract calm quiet. by_status input.old.told limit answer (settles limit input output answer (extracted words limit input output answer answered extract) calm quiet);
+  decided = λ command means calm quiet.
+      let works = subst (λ c. Works (form_of c) (task_of c) nothing limit input output answer) (only words answered.0 command answered.1 means) answered.2 in
+      by_status command input.old.told limit answer (settles (form_of command) (task_of command) nothing limit input output answer (sound command) works calm quiet);
   usage = λ none. absurd (none (answered.0, answered.1));
   form = λ e f. not_two answer e;
 }
@@ -88,7 +127,7 @@ headline words limit input output faults (Refused refusal) caused line =
 headline words limit input output faults Usage caused line = record {
   succeeds = λ e. absurd (omega arith);
   refused = λ e. absurd (omega arith);
-  decided = λ extract calm quiet. absurd (caused.0 (Extract, extract));
+  decided = λ command means calm quiet. absurd (caused.0 (command, means));
   usage = λ none. refl;
   form = λ e. caused.0;
 }

@@ -7,11 +7,12 @@ use Rattle.mv_extract.specs.declared.error.ExtractError.{ExtractError}
 use Rattle.mv_extract.specs.declared.error.ExtractError.TheVariants.{Refused as RefusedBy, Read, Write, TooLong as TooManyBytes, Memory}
 use Rattle.mv_judging.specs.declared.stop.Objection.{Objection}
 use Rattle.mv_judging.specs.Event.{Due, Accepts as Accepted, Stops, Exceeds, due}
-use Rattle.mv_judging.specs.Format.{byte_stream}
-use Rattle.mv_extract.specs.Answers.{Answers as Extracts}
-use Rattle.mv_extract.specs.Text.{heads}
+use Rattle.mv_judging.specs.Format.{Format, byte_stream}
+use Rattle.mv_extract.specs.Answers.{Answers as Works}
+use Rattle.mv_extract.specs.Task.{Task}
+use Rattle.mv_extract.specs.Text.{base_layer, nothing}
 use Rattle.mv_prefixed.specs.Form.{length_form}
-use Rattle.mv_lenform.specs.Answers.{Answers as Carries}
+use Rattle.mv_lenform.specs.Carrying.{carrying}
 use Rattle.mv_lenform.specs.declared.carrier.Target.TheVariants.{Prefixed, Framed}
 use Rattle.mv_cli.specs.declared.command.Command.{Command}
 use Rattle.mv_cli.specs.declared.command.Command.TheVariants.{Extract, Pack, Unpack}
@@ -21,12 +22,26 @@ use Rattle.mv_cli.specs.declared.ending.Ending.TheVariants.{Done, Refused, Usage
 use Rattle.mv_cli.specs.Ending.{status_of, line_of, refusal_line}
 use Rattle.mv_cli.specs.Words.{IsForm, Means}
 
--- when a command answers, and what the input gave and the output gained: `extract 0` of a byte stream its kept units,
--- framed; `pack` of a byte stream, and `unpack` of a string in the length-prefixed form, all its units in the other form
+-- the form in which a command takes its units, and what it does of them: `extract 0` writes the kept units of a byte
+-- stream, framed; `pack` all units of a byte stream, and `unpack` those of a string in the length-prefixed form, in the
+-- other form
+abbrev pub form_of : Command → Format
+form_of Extract = byte_stream
+form_of Pack = byte_stream
+form_of Unpack = length_form
+
+abbrev pub task_of : Command → Task
+task_of Extract = base_layer
+task_of Pack = carrying Prefixed
+task_of Unpack = carrying Framed
+
+-- when a command answers, and what the input gave and the output gained
 abbrev pub Does : Command → ℕ → Input → Output → Result ⊤ ExtractError → Type 0
-Does Extract limit input output answer = Extracts limit input output answer
-Does Pack limit input output answer = Carries byte_stream Prefixed limit input output answer
-Does Unpack limit input output answer = Carries length_form Framed limit input output answer
+Does command limit input output answer = Works (form_of command) (task_of command) nothing limit input output answer
+
+-- what the bytes of an input decide for a command
+abbrev pub decided_by : Command → ℕ → List ℕ → Due
+decided_by command limit held = due (form_of command) (task_of command).judge limit held
 
 -- the words are those of a command that answered so
 abbrev pub Answered : List (List ℕ) → ℕ → Input → Output → Result ⊤ ExtractError → Type 0
@@ -55,7 +70,7 @@ pub record Answers (words : List (List ℕ)) (limit : ℕ) (input : Input) (outp
   pub caused : Caused words limit input output ending
   pub line : Tells faults (line_of ending)
 
--- the status of an answer of extraction
+-- the status of an answer
 abbrev pub answer_status : Result ⊤ ExtractError → ℕ
 answer_status (Ok _) = 0
 answer_status (Err (RefusedBy refusal)) = 1
@@ -75,7 +90,7 @@ due_status (Stops stop) = stop_status stop.why
 due_status Exceeds = 7
 
 -- The program succeeds only for an input that its command accepts, and then writes what the command says; it refuses only
--- at the first offending unit and rule. Of `extract 0` the bytes of the input decide which of these comes:
+-- at the first offending unit and rule. The bytes of the input decide which of these comes:
 pub record Headline (words : List (List ℕ)) (limit : ℕ) (input : Input) (output faults : Output) (status : ℕ) : Type 0 where
   -- status 0 comes only for an input that is accepted, and the output gained exactly what its command writes of it
   pub succeeds : status ≡ 0 → Answered words limit input output (Ok tt)
@@ -83,10 +98,10 @@ pub record Headline (words : List (List ℕ)) (limit : ℕ) (input : Input) (out
   -- unit, and the line on the sink for faults names unit, byte and rule
   pub refused : status ≡ 1 →
       (refusal : Refusal) × Answered words limit input output (Err (RefusedBy refusal)) × Tells faults (refusal_line refusal)
-  -- where neither the input nor the output failed and the input tells its bytes, they decide the status of `extract 0`,
-  -- or memory was wanting
-  pub decided : Means words Extract → ¬ InputRose input → ¬ OutputRose output →
-      IfSome input.old.told (λ was. (status ≡ due_status (due byte_stream heads limit was.left)) ⊎ (status ≡ 5))
+  -- where neither the input nor the output failed and the input tells its bytes, they decide the status, or memory was
+  -- wanting
+  pub decided : (command : Command) → Means words command → ¬ InputRose input → ¬ OutputRose output →
+      IfSome input.old.told (λ was. (status ≡ due_status (decided_by command limit was.left)) ⊎ (status ≡ 5))
   -- status 2 comes exactly where the words are no form
   pub usage : ¬ IsForm words → status ≡ 2
   pub form : status ≡ 2 → ¬ IsForm words

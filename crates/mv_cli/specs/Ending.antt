@@ -1,5 +1,5 @@
 -- How a run of the program ends: its status, and the line that says why (this project's profile).
-use Rattle.std.specs.Prelude.{ℕ, List, [], ◌++◌, codes, decimal, Result, Ok, Err, ⊤}
+use Rattle.std.specs.Prelude.{ℕ, List, [], ◌++◌, codes, decimal, Result, Ok, Err}
 use Rattle.mv_rules.specs.declared.refusal.Refusal.{Refusal}
 use Rattle.mv_rules.specs.Rule.{rule_number, rule_name}
 use Rattle.mv_extract.specs.declared.error.ExtractError.{ExtractError}
@@ -9,8 +9,8 @@ use Rattle.mv_cli.specs.declared.ending.Ending.TheVariants.{Done, Refused, Usage
 use Rattle.mv_cli.specs.Words.{usage_line}
 
 -- the ending of a command that answered so
-abbrev pub ending_of : Result ⊤ ExtractError → Ending
-ending_of (Ok _) = Done
+abbrev pub ending_of : {T : Type 0} → Result T ExtractError → Ending
+ending_of (Ok answer) = Done
 ending_of (Err (RefusedBy refusal)) = Refused refusal
 ending_of (Err Read) = ReadFault
 ending_of (Err Write) = WriteFault

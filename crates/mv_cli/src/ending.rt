@@ -26,11 +26,11 @@ impl Ending {
     ghost use Rattle.mv_cli.specs.Ending.{ending_of, status_of};
 
     /// The ending of a command that answered so.
-    pub fn of(answer: Result<(), ExtractError>) -> Ending
+    pub fn of<T: Drop>(answer: Result<T, ExtractError>) -> Ending
         ensures { result ≡ ending_of answer }
     {
         match answer {
-            Ok(()) => Ending::Done,
+            Ok(_) => Ending::Done,
             Err(ExtractError::Refused(refusal)) => Ending::Refused(refusal),
             Err(ExtractError::Read) => Ending::ReadFault,
             Err(ExtractError::Write) => Ending::WriteFault,

@@ -86,15 +86,15 @@ gains-took {mid = mid} {new = new} reading number n taken took gains none =
     (subst (λ k. Took (input_of mid new) gains.piece (k == 0)) none gains.took))
 
 -- the end was read, and the last unit and the end handed on
-pub end-driven : {V O F : Type 0} (f : Format) (m : Meaning V O F) (start : V) (first out : O) (limit : ℕ) (input : Input) (taken : List ℕ) (answer : Result ⊤ (DriveError F)) → Took input taken true → length taken ≤ limit → seen f (m.judge start) false taken ≡ None → HandlesEnd f m start first out taken answer → Driven f m start first out limit input answer
-end-driven f m start first out limit input taken (Ok done) took within quiet handles = record {
+pub end-driven : {V O F : Type 0} (f : Format) (m : Meaning V O F) (start new : V) (first out : O) (limit : ℕ) (input : Input) (taken : List ℕ) (answer : Result ⊤ (DriveError F)) → Took input taken true → length taken ≤ limit → seen f (m.judge start) false taken ≡ None → HandlesEnd f m start new first out taken answer → Driven f m start new first out limit input answer
+end-driven f m start new first out limit input taken (Ok done) took within quiet handles = record {
   taken = taken;
   took = took;
   within = within;
   accepted = handles.0;
   closed = handles.1;
 }
-end-driven f m start first out limit input taken (Err (Stopped stop)) took within quiet handles = record {
+end-driven f m start new first out limit input taken (Err (Stopped stop)) took within quiet handles = record {
   taken = taken;
   ended = true;
   took = took;
@@ -104,9 +104,9 @@ end-driven f m start first out limit input taken (Err (Stopped stop)) took withi
   units = handles.within;
   wrote = handles.wrote;
 }
-end-driven f m start first out limit input taken (Err Read) took within quiet handles = absurd handles
-end-driven f m start first out limit input taken (Err TooLong) took within quiet handles = absurd handles
-end-driven f m start first out limit input taken (Err Memory) took within quiet handles = record {
+end-driven f m start new first out limit input taken (Err Read) took within quiet handles = absurd handles
+end-driven f m start new first out limit input taken (Err TooLong) took within quiet handles = absurd handles
+end-driven f m start new first out limit input taken (Err Memory) took within quiet handles = record {
   taken = taken;
   ended = true;
   took = took;
@@ -116,7 +116,7 @@ end-driven f m start first out limit input taken (Err Memory) took within quiet 
   accepted = handles.accepted;
   wrote = handles.wrote;
 }
-end-driven f m start first out limit input taken (Err (Fault fault)) took within quiet handles = record {
+end-driven f m start new first out limit input taken (Err (Fault fault)) took within quiet handles = record {
   taken = taken;
   ended = true;
   took = took;
@@ -135,7 +135,7 @@ Rose-earlier a b c h rose = omega (arith, rose)
 -- an answer came in a piece
 pub piece-driven : {V O F : Type 0} (f : Format) (m : Meaning V O F) (start : V) (first : O) (Holds Then : OfBytes) (now next : V) (out written : O) {old mid : SourceState} (new : SourceState) (limit most : ℕ) (reading following : Reading) (number then : ℕ) (taken : List ℕ) (error : DriveError F) →
     Took (input_of old mid) taken false → length taken + most ≤ limit → most ≤ largest_piece → old.faults ≤ mid.faults → IdleBy f m start first Holds now out reading number taken →
-    Reads f m start first Then next written most (input_of mid new) following then taken (Err error) → Driven f m start first written limit (input_of old new) (Err error)
+    Reads f m start first Then next written most (input_of mid new) following then taken (Err error) → Driven f m start next first written limit (input_of old new) (Err error)
 piece-driven f m start first Holds Then now next out written new limit most reading following number then taken (Stopped stop) took within small count idle reads = record {
   taken = taken ++ reads.piece;
   ended = false;
@@ -187,7 +187,7 @@ piece-driven f m start first Holds Then now next out written new limit most read
 
 -- one byte more was asked for behind as many as the limit, and there was one, or the read failed
 pub more-driven : {V O F : Type 0} (f : Format) (m : Meaning V O F) (start : V) (first : O) (Holds : OfBytes) (now : V) (out : O) {old mid : SourceState} (new : SourceState) (limit : ℕ) (reading : Reading) (number : ℕ) (taken : List ℕ) → Took (input_of old mid) taken false → length taken ≡ limit → IdleBy f m start first Holds now out reading number taken →
-    (extra : ℕ) × Took (input_of mid new) (extra ∷ []) false → Driven f m start first out limit (input_of old new) (Err TooLong)
+    (extra : ℕ) × Took (input_of mid new) (extra ∷ []) false → Driven f m start now first out limit (input_of old new) (Err TooLong)
 more-driven f m start first Holds now out new limit reading number taken took full idle (extra, ends) = record {
   taken = taken;
   extra = extra;
@@ -198,7 +198,7 @@ more-driven f m start first Holds now out new limit reading number taken took fu
 }
 
 pub fails-driven : {V O F : Type 0} (f : Format) (m : Meaning V O F) (start : V) (first : O) (Holds : OfBytes) (now : V) (out : O) {old mid : SourceState} (new : SourceState) (limit : ℕ) (reading : Reading) (number : ℕ) (taken : List ℕ) → Took (input_of old mid) taken false → length taken ≡ limit → old.faults ≤ mid.faults → IdleBy f m start first Holds now out reading number taken →
-    Took (input_of mid new) [] false × InputRose (input_of mid new) → Driven f m start first out limit (input_of old new) (Err Read)
+    Took (input_of mid new) [] false × InputRose (input_of mid new) → Driven f m start now first out limit (input_of old new) (Err Read)
 fails-driven f m start first Holds now out {old} {mid} new limit reading number taken took full count idle ends = record {
   taken = taken;
   took = Took-end took ends.0;
@@ -209,7 +209,7 @@ fails-driven f m start first Holds now out {old} {mid} new limit reading number 
 }
 
 -- memory was wanting before the first read
-pub no-memory : {V O F : Type 0} (f : Format) (m : Meaning V O F) (start : V) (first : O) (limit : ℕ) (source : SourceState) → Begins m start first → Driven f m start first first limit (input_of source source) (Err Memory)
+pub no-memory : {V O F : Type 0} (f : Format) (m : Meaning V O F) (start : V) (first : O) (limit : ℕ) (source : SourceState) → Begins m start first → Driven f m start start first first limit (input_of source source) (Err Memory)
 no-memory f m start first limit source begins = record {
   taken = [];
   ended = false;

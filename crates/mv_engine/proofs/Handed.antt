@@ -147,14 +147,14 @@ unit-failed f m start first Holds now new out written reading number s u (Fault 
     }
 
 -- the end was handed to the visitor, behind all units
-pub end-closed : {V O F : Type 0} (f : Format) (m : Meaning V O F) (start : V) (first : O) (now : V) (out written : O) (number taken : ℕ) (s : List ℕ) (answer : Result ⊤ (DriveError F)) → AllHanded f (m.judge start) (m.stands start now) (m.wrote start first out) true number s → taken ≡ length s →
-    ClosesOne m start first written number taken (f.whole true s) answer → HandlesEnd f m start first written s answer
-end-closed f m start first now out written number taken s (Ok done) all bytes closes =
+pub end-closed : {V O F : Type 0} (f : Format) (m : Meaning V O F) (start : V) (first : O) (now new : V) (out written : O) (number taken : ℕ) (s : List ℕ) (answer : Result ⊤ (DriveError F)) → AllHanded f (m.judge start) (m.stands start now) (m.wrote start first out) true number s → taken ≡ length s →
+    ClosesOne m start new first written number taken (f.whole true s) answer → HandlesEnd f m start new first written s answer
+end-closed f m start first now new out written number taken s (Ok done) all bytes closes =
     let j = m.judge start in (
       seen-ended f j s all.quiet all.accepted ∙ ap (option_map (stop_at (length (f.whole true s)) (length s))) closes.0,
       closes.1,
     )
-end-closed f m start first now out written number taken s (Err (Stopped stop)) all bytes closes =
+end-closed f m start first now new out written number taken s (Err (Stopped stop)) all bytes closes =
     let j = m.judge start in
     let ws = f.whole true s in
     record {
@@ -166,10 +166,10 @@ end-closed f m start first now out written number taken s (Err (Stopped stop)) a
       within = let unit = closes.0 in let given = all.given in omega arith;
       wrote = subst (m.wrote start first written) (sym (ap (λ n. take n ws) (closes.0 ∙ all.given) ∙ take-length ws)) closes.3;
     }
-end-closed f m start first now out written number taken s (Err Read) all bytes closes = absurd closes
-end-closed f m start first now out written number taken s (Err TooLong) all bytes closes = absurd closes
-end-closed f m start first now out written number taken s (Err Memory) all bytes closes = absurd closes
-end-closed f m start first now out written number taken s (Err (Fault fault)) all bytes closes =
+end-closed f m start first now new out written number taken s (Err Read) all bytes closes = absurd closes
+end-closed f m start first now new out written number taken s (Err TooLong) all bytes closes = absurd closes
+end-closed f m start first now new out written number taken s (Err Memory) all bytes closes = absurd closes
+end-closed f m start first now new out written number taken s (Err (Fault fault)) all bytes closes =
     let ws = f.whole true s in
     record {
       units = ws;

@@ -46,13 +46,13 @@ by-stop : (f : Format) (j : Judge) (is : IsFormat f) (limit : ℕ) (input : Inpu
 by-stop f j is limit input taken true stop took within shown = by-event f j is limit input.old.told input.new.told taken (Some stop) took.takes (took.at_end refl) within shown
 by-stop f j is limit input taken false stop took within shown = by-shown f j is limit input.old.told input.new.told taken stop took.takes within shown
 
-pub settles : {V O F : Type 0} (f : Format) (m : Meaning V O F) (is : IsFormat f) (start : V) (first out : O) (limit : ℕ) (input : Input) (answer : Result ⊤ (DriveError F)) → Driven f m start first out limit input answer → Settles f (m.judge start) limit input answer
-settles f m is start first out limit input (Ok done) driven calm =
+pub settles : {V O F : Type 0} (f : Format) (m : Meaning V O F) (is : IsFormat f) (start new : V) (first out : O) (limit : ℕ) (input : Input) (answer : Result ⊤ (DriveError F)) → Driven f m start new first out limit input answer → Settles f (m.judge start) limit input answer
+settles f m is start new first out limit input (Ok done) driven calm =
     by-event f (m.judge start) is limit input.old.told input.new.told driven.taken None driven.took.takes (driven.took.at_end refl) driven.within driven.accepted
-settles f m is start first out limit input (Err (Stopped stop)) driven calm =
+settles f m is start new first out limit input (Err (Stopped stop)) driven calm =
     by-stop f (m.judge start) is limit input driven.taken driven.ended stop driven.took driven.within driven.shown
-settles f m is start first out limit input (Err Read) driven calm = absurd (calm driven.rose)
-settles f m is start first out limit input (Err TooLong) driven calm =
+settles f m is start new first out limit input (Err Read) driven calm = absurd (calm driven.rose)
+settles f m is start new first out limit input (Err TooLong) driven calm =
     by-over f (m.judge start) limit input.old.told input.new.told driven.taken driven.extra driven.took.takes driven.limit_reached driven.quiet
-settles f m is start first out limit input (Err Memory) driven calm = excused input.old.told
-settles f m is start first out limit input (Err (Fault fault)) driven calm = excused input.old.told
+settles f m is start new first out limit input (Err Memory) driven calm = excused input.old.told
+settles f m is start new first out limit input (Err (Fault fault)) driven calm = excused input.old.told

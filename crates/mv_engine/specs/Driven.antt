@@ -27,12 +27,12 @@ pub record Prompt (f : Format) (j : Judge) (taken : List ℕ) (ended : Bool) : T
   pub quiet : seen f j false before ≡ None
 
 -- Ok: the end was read within the limit, the bytes taken are accepted, and all their units and the end were taken
-pub record Runs {V O F : Type 0} (f : Format) (m : Meaning V O F) (start : V) (first out : O) (limit : ℕ) (input : Input) : Type 0 where
+pub record Runs {V O F : Type 0} (f : Format) (m : Meaning V O F) (start new : V) (first out : O) (limit : ℕ) (input : Input) : Type 0 where
   pub taken : List ℕ
   pub took : Took input taken true
   pub within : length taken ≤ limit
   pub accepted : event f (m.judge start) taken ≡ None
-  pub closed : m.closed start first out (f.whole true taken)
+  pub closed : m.closed start new first out (f.whole true taken)
 
 -- Stopped: the bytes taken show the stop, with no read after that, and the units before it were written
 pub record Halts {V O F : Type 0} (f : Format) (m : Meaning V O F) (start : V) (first out : O) (limit : ℕ) (input : Input) (stop : Stop) : Type 0 where
@@ -89,13 +89,13 @@ pub record Fails {V O F : Type 0} (f : Format) (m : Meaning V O F) (start : V) (
   pub failed : m.failed start first out at_end units fault
 
 -- each answer with its cause and what it leaves
-abbrev pub Driven : {V O F : Type 0} → Format → Meaning V O F → V → O → O → ℕ → Input → Result ⊤ (DriveError F) → Type 0
-Driven f m start first out limit input (Ok _) = Runs f m start first out limit input
-Driven f m start first out limit input (Err (Stopped stop)) = Halts f m start first out limit input stop
-Driven f m start first out limit input (Err Read) = ReadFails f m start first out limit input
-Driven f m start first out limit input (Err TooLong) = Exceeded f m start first out limit input
-Driven f m start first out limit input (Err Memory) = Wants f m start first out limit input
-Driven f m start first out limit input (Err (Fault fault)) = Fails f m start first out limit input fault
+abbrev pub Driven : {V O F : Type 0} → Format → Meaning V O F → V → V → O → O → ℕ → Input → Result ⊤ (DriveError F) → Type 0
+Driven f m start new first out limit input (Ok _) = Runs f m start new first out limit input
+Driven f m start new first out limit input (Err (Stopped stop)) = Halts f m start first out limit input stop
+Driven f m start new first out limit input (Err Read) = ReadFails f m start first out limit input
+Driven f m start new first out limit input (Err TooLong) = Exceeded f m start first out limit input
+Driven f m start new first out limit input (Err Memory) = Wants f m start first out limit input
+Driven f m start new first out limit input (Err (Fault fault)) = Fails f m start first out limit input fault
 
 -- an answer is the one that the bytes held decide, or want of memory, or a fault of the visitor
 abbrev pub Decides : {F : Type 0} → Due → Result ⊤ (DriveError F) → Type 0

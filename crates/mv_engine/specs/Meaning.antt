@@ -15,8 +15,8 @@ pub record Meaning (V O F : Type 0) : Type 1 where
   pub stands : V → V → List NalUnit → Type 0
   -- what became of what is written on, by the first of the two: these units were written, and nothing else
   pub wrote : V → O → O → List NalUnit → Type 0
-  -- the same once the end was taken too
-  pub closed : V → O → O → List NalUnit → Type 0
+  -- what became of both once the end was taken too
+  pub closed : V → V → O → O → List NalUnit → Type 0
   -- the same where the visitor couldn't go on, at the last of these units or, where that is said, at the end
   pub failed : V → O → O → Bool → List NalUnit → F → Type 0
 
@@ -62,6 +62,6 @@ Visits m start first new out us u (Err (Fault fault)) = FailsAt m start first ou
 
 -- each answer to the end behind units
 abbrev pub Ends : {V O F : Type 0} → Meaning V O F → V → O → V → O → List NalUnit → Result ⊤ (Ending F) → Type 0
-Ends m start first new out us (Ok _) = ((m.judge start).ending us ≡ None) × m.closed start first out us
+Ends m start first new out us (Ok _) = ((m.judge start).ending us ≡ None) × m.closed start new first out us
 Ends m start first new out us (Err (Objects why)) = ((m.judge start).ending us ≡ Some why) × m.wrote start first out us
 Ends m start first new out us (Err (Fault fault)) = m.failed start first out true us fault

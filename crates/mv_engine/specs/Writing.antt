@@ -33,7 +33,7 @@ writing state w = record {
   judge = w.judge;
   stands = w.stands;
   wrote = λ start first now us. Gained (state first) (state now) (w.text start us);
-  closed = λ start first now us. Gained (state first) (state now) (w.text start us ++ w.closing start us);
+  closed = λ start last first now us. w.stands start last us × Gained (state first) (state now) (w.text start us ++ w.closing start us);
   failed = λ start first now ended us fault.
       GainedPart (state first) (state now) (if ended then w.text start us ++ w.closing start us else w.text start us);
 }

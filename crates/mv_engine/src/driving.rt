@@ -41,7 +41,7 @@ pub fn drive<S: Source, R: UnitReader, V: Visitor>(
     requires fresh { IsFresh (R.reading reader.old) }
     requires stands { R.stands reader.old [] }
     requires opens { V.meaning.opens visitor.old }
-    ensures driven { Driven R.format V.meaning visitor.old out.old out.new limit
+    ensures driven { Driven R.format V.meaning visitor.old visitor.new out.old out.new limit
         (input_of (S.state source.old) (S.state source.new)) result }
     ensures settles { Settles R.format (V.meaning.judge visitor.old) limit
         (input_of (S.state source.old) (S.state source.new)) result }
@@ -67,7 +67,7 @@ fn drive_pieces<S: Source, R: UnitReader, V: Visitor>(
     requires stands { R.stands reader.old [] }
     requires opens { V.meaning.opens visitor.old }
     requires room { length piece.old ≡ largest_piece }
-    ensures driven { Driven R.format V.meaning visitor.old out.old out.new limit
+    ensures driven { Driven R.format V.meaning visitor.old visitor.new out.old out.new limit
         (input_of (S.state source.old) (S.state source.new)) result }
     ensures source_count { (S.state source.old).faults ≤ (S.state source.new).faults }
 {

@@ -4,6 +4,7 @@
 
 mod driving;
 mod error;
+pub mod laws;
 mod reader;
 mod reading;
 mod units;

@@ -59,7 +59,7 @@ pub fn handle_end<R: UnitReader, V: Visitor>(
     requires count { (R.reading reader.old).fed ≡ taken }
     ensures handles { (start : V) (first : V.Out) (s : List ℕ) →
         IdleBy R.format V.meaning start first (R.stands reader.old) visitor.old out.old (R.reading reader.old) number s →
-        HandlesEnd R.format V.meaning start first out.new s result }
+        HandlesEnd R.format V.meaning start visitor.new first out.new s result }
 {
     let mut number = number;
     match reader.finish() {
@@ -136,7 +136,7 @@ fn close<V: Visitor>(
     requires ready { ReadyToEnd V.meaning visitor.old out.old }
     ensures closes { (start : V) (first : V.Out) (us : List NalUnit) → V.meaning.stands start visitor.old us →
         V.meaning.wrote start first out.old us →
-        ClosesOne V.meaning start first out.new number taken us result }
+        ClosesOne V.meaning start visitor.new first out.new number taken us result }
 {
     match visitor.end(out) {
         Ok(()) => Ok(()),

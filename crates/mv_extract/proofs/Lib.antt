@@ -1,3 +1,4 @@
 pub mod Ended
 pub mod Kept
 pub mod Settled
+pub mod Sound

@@ -1,3 +1,5 @@
 pub mod Answers
+pub mod Errors
 pub mod Keeping
+pub mod Task
 pub mod Text

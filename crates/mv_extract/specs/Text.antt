@@ -1,15 +1,14 @@
 -- What extraction tries and writes of a stream (this project's profile): the heads of the units, and the units that
 -- are kept, framed.
-use Rattle.std.specs.Prelude.{ℕ, Bool, List, take, None, Some, if◌then◌else◌}
-use Rattle.mv_rules.specs.declared.refusal.Refusal.{Refusal}
+use Rattle.std.specs.Prelude.{ℕ, List, None, Some, if◌then◌else◌, ⊤}
 use Rattle.mv_rules.specs.declared.rule.Rule.{Rule}
 use Rattle.mv_units.specs.Framing.{frame}
 use Rattle.mv_units.specs.Rules.{bad_head}
-use Rattle.mv_units.specs.Shown.{whole_units}
-use Rattle.mv_units.specs.Units.{NalUnit, units}
+use Rattle.mv_units.specs.Units.{NalUnit}
 use Rattle.mv_judging.specs.declared.stop.Objection.{Objection}
 use Rattle.mv_judging.specs.Extract.{extract, in_base_layer}
 use Rattle.mv_judging.specs.Judge.{Judge}
+use Rattle.mv_extract.specs.Task.{Task}
 
 -- the judge of heads: a unit is objected to by the rule Head alone, and the end never is
 abbrev pub heads : Judge
@@ -22,10 +21,10 @@ heads = record {
 abbrev pub text : List NalUnit → List ℕ
 text us = frame (extract in_base_layer us)
 
--- the kept units of those that were taken whole, framed
-abbrev pub text_taken : Bool → List ℕ → List ℕ
-text_taken ended taken = text (whole_units ended taken)
+-- the base layer is kept by the heads alone
+abbrev pub base_layer : Task
+base_layer = record { judge = heads; text = text }
 
--- the kept units before the refused one, framed
-abbrev pub text_before : Refusal → List ℕ → List ℕ
-text_before refusal taken = text (take refusal.unit (units taken))
+-- nothing is answered of the units
+abbrev pub nothing : List NalUnit → ⊤
+nothing us = tt

@@ -16,12 +16,13 @@ pub struct BaseLayer<K> {
 impl<K: Sink> Visitor for BaseLayer<K> {
     ghost use Rattle.mv_engine.specs.Writing.{writing};
     ghost use Rattle.mv_extract.specs.Keeping.{keeper, keeper-begins};
+    ghost use Rattle.mv_extract.specs.Task.{writer};
 
     type Out = K;
 
     type Fault = SinkFailed;
 
-    ghost meaning = { writing K.state keeper };
+    ghost meaning = { writing K.state (writer keeper) };
 
     fn unit(
         &mut self,

@@ -1,3 +1,5 @@
+use mv_engine::DriveError;
+use mv_io::SinkFailed;
 use mv_rules::Refusal;
 use thiserror::Error;
 
@@ -19,4 +21,22 @@ pub enum ExtractError {
     /// The allocator refused memory.
     #[error("no memory")]
     Memory,
+}
+
+impl ExtractError {
+    ghost use Rattle.mv_extract.specs.Errors.{IsTold, StopsByRule};
+
+    /// The error of a run whose visitor writes on a sink, and objects by rules alone.
+    pub fn of(error: DriveError<SinkFailed>) -> ExtractError
+        requires { StopsByRule error }
+        ensures { IsTold error result }
+    {
+        match error {
+            DriveError::Stopped(stop) => ExtractError::Refused(stop.refusal()),
+            DriveError::Read => ExtractError::Read,
+            DriveError::TooLong => ExtractError::TooLong,
+            DriveError::Memory => ExtractError::Memory,
+            DriveError::Fault(_) => ExtractError::Write,
+        }
+    }
 }

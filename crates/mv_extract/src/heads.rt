@@ -3,12 +3,14 @@
 
 ghost use Rattle.std.specs.Prelude.{◌≡◌, ◌≤◌};
 ghost use Rattle.mv_io.specs.Call.{input_of, output_of};
+ghost use Rattle.mv_judging.specs.Format.{byte_stream};
 ghost use Rattle.mv_extract.specs.Answers.{Answers, Settles};
+ghost use Rattle.mv_extract.specs.Text.{base_layer, heads, nothing};
 
 use crate::base_layer::BaseLayer;
 use crate::error::ExtractError;
 use mv_bytestream::Scanner;
-use mv_engine::{DriveError, drive};
+use mv_engine::drive;
 use mv_io::{Sink, Source};
 use std::alloc::Global;
 use std::marker::PhantomData;
@@ -38,11 +40,11 @@ pub fn extract_heads<S: Source, K: Sink>(
     sink: &mut K,
 ) -> Result<(), ExtractError>
     requires { ols ≡ 0 }
-    ensures answers { Answers limit
+    ensures answers { Answers byte_stream base_layer nothing limit
         (input_of (S.state source.old) (S.state source.new))
         (output_of (K.state sink.old) (K.state sink.new))
         result }
-    ensures settles { Settles limit
+    ensures settles { Settles byte_stream heads limit
         (input_of (S.state source.old) (S.state source.new))
         (output_of (K.state sink.old) (K.state sink.new))
         result }
@@ -57,10 +59,6 @@ pub fn extract_heads<S: Source, K: Sink>(
     let mut visitor = BaseLayer { sink: PhantomData };
     match drive(alloc, source, limit, &mut scanner, &mut visitor, sink) {
         Ok(()) => Ok(()),
-        Err(DriveError::Stopped(stop)) => Err(ExtractError::Refused(stop.refusal())),
-        Err(DriveError::Read) => Err(ExtractError::Read),
-        Err(DriveError::TooLong) => Err(ExtractError::TooLong),
-        Err(DriveError::Memory) => Err(ExtractError::Memory),
-        Err(DriveError::Fault(_)) => Err(ExtractError::Write),
+        Err(error) => Err(ExtractError::of(error)),
     }
 }

@@ -20,9 +20,11 @@ pub fn appended_bytes_add_up()
 {}
 
 /// What a source gives adds up: nothing in a call that leaves it as it is, and the bytes of two calls one after
-/// the other, where the first didn't read the end.
+/// the other, where the first didn't read the end; those of the first alone where the second gave none.
 pub fn taken_bytes_add_up()
     ensures nothing { (old : SourceState) → Took (input_of old old) [] false }
     ensures both { (old mid new : SourceState) (xs ys : List ℕ) (ended : Bool) →
         Took (input_of old mid) xs false → Took (input_of mid new) ys ended → Took (input_of old new) (xs ++ ys) ended }
+    ensures end { (old mid new : SourceState) (xs : List ℕ) (ended : Bool) →
+        Took (input_of old mid) xs false → Took (input_of mid new) [] ended → Took (input_of old new) xs ended }
 {}

@@ -1,4 +1,3 @@
-pub mod Answers
 pub mod Begun
 pub mod Carrying
 pub mod Found

@@ -6,7 +6,7 @@ ghost use Rattle.mv_io.specs.Faults.{HasCause};
 ghost use Rattle.mv_io.specs.Sink.{Appends, AppendsPrefix};
 ghost use Rattle.mv_prefixed.specs.LenForm.{lenform};
 ghost use Rattle.mv_units.specs.Rules.{longest_unit};
-ghost use Rattle.mv_lenform.specs.Answers.{text_of};
+ghost use Rattle.mv_lenform.specs.Carrying.{text_of};
 
 use mv_bytestream::{Found, frame};
 use mv_engine::{Ending, Visitor};
@@ -22,15 +22,17 @@ pub enum Target {
     Framed,
 }
 
-// Writes each unit on a sink, in one form.
+// Writes each unit on a sink, in one form, and counts them.
 #[derive(Drop)]
 pub struct Carrier<K> {
     pub to: Target,
+    pub count: u64,
     pub sink: PhantomData<K>,
 }
 
 impl<K: Sink> Visitor for Carrier<K> {
     ghost use Rattle.mv_engine.specs.Writing.{writing};
+    ghost use Rattle.mv_extract.specs.Task.{writer};
     ghost use Rattle.mv_lenform.specs.Carrying.{carrier};
     ghost use Rattle.mv_lenform.specs.Begun.{carrier-begins};
 
@@ -38,7 +40,7 @@ impl<K: Sink> Visitor for Carrier<K> {
 
     type Fault = SinkFailed;
 
-    ghost meaning = { writing K.state (carrier (λ c. c.to)) };
+    ghost meaning = { writing K.state (writer (carrier (λ c. c.to) (λ c. c.count))) };
 
     fn unit(
         &mut self,
@@ -46,9 +48,11 @@ impl<K: Sink> Visitor for Carrier<K> {
         found: &Found<'_>,
         out: &mut K,
     ) -> Result<(), Ending<SinkFailed>> {
-        let _ = number;
         match put(out, self.to, found.unit) {
-            Ok(()) => Ok(()),
+            Ok(()) => {
+                self.count = number + 1;
+                Ok(())
+            }
             Err(failed) => Err(Ending::Fault(failed)),
         }
     }
@@ -58,7 +62,7 @@ impl<K: Sink> Visitor for Carrier<K> {
         Ok(())
     }
 
-    ghost begins = { λ start first opens. carrier-begins K.state (λ c. c.to) start first };
+    ghost begins = { λ start first opens. carrier-begins K.state (λ c. c.to) (λ c. c.count) start first opens };
 }
 
 // Writes one unit in a form.

@@ -3,6 +3,7 @@
 
 mod bytes;
 mod carrier;
+pub mod laws;
 mod len_reader;
 mod machine;
 mod packing;

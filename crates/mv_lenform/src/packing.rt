@@ -1,17 +1,18 @@
 //! Units carried from a byte stream to the length-prefixed form, and back.
 #![tactic(auto)]
 
-ghost use Rattle.std.specs.Prelude.{◌≡◌, ◌≤◌, []};
+ghost use Rattle.std.specs.Prelude.{◌≡◌, ◌≤◌, [], length};
 ghost use Rattle.mv_engine.specs.Reader.{IsFresh};
 ghost use Rattle.mv_io.specs.Call.{input_of, output_of};
 ghost use Rattle.mv_judging.specs.Format.{byte_stream};
 ghost use Rattle.mv_prefixed.specs.Form.{length_form};
-ghost use Rattle.mv_lenform.specs.Answers.{Answers};
+ghost use Rattle.mv_extract.specs.Answers.{Answers, Settles};
+ghost use Rattle.mv_lenform.specs.Carrying.{carrying, nobody};
 
 use crate::carrier::{Carrier, Target};
 use crate::len_reader::LenReader;
 use mv_bytestream::Scanner;
-use mv_engine::{DriveError, UnitReader, drive};
+use mv_engine::{UnitReader, drive};
 use mv_extract::ExtractError;
 use mv_io::{Sink, Source};
 use std::alloc::Global;
@@ -22,7 +23,7 @@ use std::marker::PhantomData;
 /// `Leading`, `Short`, `Emulation` and `Long` on each unit (this project's profile). Heads aren't looked at.
 ///
 /// It keeps no more of the input than one piece and one unit. A unit is written once it was taken whole. Where
-/// `limit` bytes were taken and they show no refusal, one byte more is asked for.
+/// `limit` bytes were taken and they show no refusal, one byte more is asked for. Answers the number of units.
 ///
 /// # Errors
 ///
@@ -36,8 +37,12 @@ pub fn pack<S: Source, K: Sink>(
     source: &mut S,
     limit: u64,
     sink: &mut K,
-) -> Result<(), ExtractError>
-    ensures answers { Answers byte_stream Target.Prefixed limit
+) -> Result<u64, ExtractError>
+    ensures answers { Answers byte_stream (carrying Target.Prefixed) length limit
+        (input_of (S.state source.old) (S.state source.new))
+        (output_of (K.state sink.old) (K.state sink.new))
+        result }
+    ensures settles { Settles byte_stream nobody limit
         (input_of (S.state source.old) (S.state source.new))
         (output_of (K.state sink.old) (K.state sink.new))
         result }
@@ -67,8 +72,12 @@ pub fn unpack<S: Source, K: Sink>(
     source: &mut S,
     limit: u64,
     sink: &mut K,
-) -> Result<(), ExtractError>
-    ensures answers { Answers length_form Target.Framed limit
+) -> Result<u64, ExtractError>
+    ensures answers { Answers length_form (carrying Target.Framed) length limit
+        (input_of (S.state source.old) (S.state source.new))
+        (output_of (K.state sink.old) (K.state sink.new))
+        result }
+    ensures settles { Settles length_form nobody limit
         (input_of (S.state source.old) (S.state source.new))
         (output_of (K.state sink.old) (K.state sink.new))
         result }
@@ -89,10 +98,14 @@ fn carry<S: Source, R: UnitReader, K: Sink>(
     reader: &mut R,
     to: Target,
     sink: &mut K,
-) -> Result<(), ExtractError>
+) -> Result<u64, ExtractError>
     requires fresh { IsFresh (R.reading reader.old) }
     requires stands { R.stands reader.old [] }
-    ensures answers { Answers R.format to limit
+    ensures answers { Answers R.format (carrying to) length limit
+        (input_of (S.state source.old) (S.state source.new))
+        (output_of (K.state sink.old) (K.state sink.new))
+        result }
+    ensures settles { Settles R.format nobody limit
         (input_of (S.state source.old) (S.state source.new))
         (output_of (K.state sink.old) (K.state sink.new))
         result }
@@ -101,14 +114,11 @@ fn carry<S: Source, R: UnitReader, K: Sink>(
 {
     let mut visitor = Carrier {
         to,
+        count: 0,
         sink: PhantomData,
     };
     match drive(alloc, source, limit, reader, &mut visitor, sink) {
-        Ok(()) => Ok(()),
-        Err(DriveError::Stopped(stop)) => Err(ExtractError::Refused(stop.refusal())),
-        Err(DriveError::Read) => Err(ExtractError::Read),
-        Err(DriveError::TooLong) => Err(ExtractError::TooLong),
-        Err(DriveError::Memory) => Err(ExtractError::Memory),
-        Err(DriveError::Fault(_)) => Err(ExtractError::Write),
+        Ok(()) => Ok(visitor.count),
+        Err(error) => Err(ExtractError::of(error)),
     }
 }

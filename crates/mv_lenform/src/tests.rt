@@ -18,7 +18,7 @@ fn unpacked(
     alloc: Global,
     input: &[u8],
     pieces: &[u32],
-) -> Result<(MemSink, Result<(), ExtractError>), Fail> {
+) -> Result<(MemSink, Result<u64, ExtractError>), Fail> {
     let mut source = MemSource::new(alloc, input, pieces, &[])?;
     let mut sink = MemSink::new(alloc, 100, &[])?;
     let answer = unpack(alloc, &mut source, 100, &mut sink);
@@ -30,10 +30,10 @@ fn packs_and_unpacks(rt: HostRuntime) -> Result<(), Fail> {
     for pieces in [ONES.as_slice(), &[]] {
         let mut source = MemSource::new(rt.alloc(), &ROW, pieces, &[])?;
         let mut sink = MemSink::new(rt.alloc(), 100, &[])?;
-        assert_eq!(rt; pack(rt.alloc(), &mut source, 100, &mut sink), Ok(()));
+        assert_eq!(rt; pack(rt.alloc(), &mut source, 100, &mut sink), Ok(2));
         assert_eq!(rt; sink.bytes(), PACKED.as_slice());
         let (sink, answer) = unpacked(rt.alloc(), &PACKED, pieces)?;
-        assert_eq!(rt; answer, Ok(()));
+        assert_eq!(rt; answer, Ok(2));
         assert_eq!(rt; sink.bytes(), FRAMED.as_slice());
     }
     Ok(())

@@ -10,6 +10,7 @@ use Rattle.mv_rules.specs.declared.refusal.Refusal.{Refusal}
 use Rattle.mv_units.specs.Rules.{has_emulation, longest_unit, long_unit, early_rule, unit_rule}
 use Rattle.mv_units.specs.Shown.{IsOneOf, StartsWith}
 use Rattle.mv_units.specs.Units.{NalUnit, has_code}
+use Rattle.mv_units.proofs.Starts.{starts-length}
 use Rattle.mv_judging.specs.Format.{Goes, IsFormat}
 use Rattle.mv_prefixed.specs.Form.{length_form, length_rules}
 use Rattle.mv_prefixed.specs.LenForm.{IsPlain, lenform}
@@ -160,15 +161,6 @@ by-ends true t r shown (Early is) = go (nat_lt 0 (length (read t).rest)) refl
 pub unit-number : (ended : Bool) (t : List ℕ) (r : Refusal) → len_refusal ended t ≡ Some r → r.unit ≡ length (len_units t)
 unit-number ended t r shown = (by-ends ended t r shown (ends-of t)).0 ∙ sym (placed-length 0 (read t).units)
 
-starts-length : (us vs : List NalUnit) → StartsWith us vs → length vs ≤ length us
-starts-length us vs starts = less (nat_lt (length us) (length vs)) refl
-  where
-    less : (b : Bool) → nat_lt (length us) (length vs) ≡ b → length vs ≤ length us
-    less false isnt = ltb-false (length us) (length vs) isnt
-    less true is =
-        let same : us ≡ vs = sym (take_all (length vs) us (let h = ltb-true _ _ is in omega (arith, h))) ∙ starts in
-        let len : length us ≡ length vs = ap (λ v. length v) same in omega (arith, len)
-
 later : (t s : List ℕ) (r : Refusal) → len_refusal false t ≡ None → len_refusal false (t ++ s) ≡ Some r → length (len_units t) ≤ r.unit
 later t s r quiet shown =
     let number = unit-number false (t ++ s) r shown in
@@ -195,7 +187,7 @@ quiet-done s quiet = go (ends-of s)
     go (Refused rule is) = absurd (let h = sym (shown-broken true s rule is) ∙ quiet in cc)
 
 -- units are plain, so they break no rule on their own bytes
-plain-clean : (u : List ℕ) → IsPlain u → unit_rule u ≡ None
+pub plain-clean : (u : List ℕ) → IsPlain u → unit_rule u ≡ None
 plain-clean u plain =
     ap (λ b. cond b (Some Rule.Short) (early_rule u)) (le-ltb (length u) 2 plain.head)
     ∙ ap (λ b. cond b (Some Rule.Emulation) (cond (long_unit u) (Some Rule.Long) None)) (ap has_emulation (take_all longest_unit u plain.most) ∙ plain.quiet)

@@ -1,4 +1,5 @@
 pub mod Forms
 pub mod Fronts
+pub mod Packed
 pub mod ReadLaws
-mod Spelling
+pub mod Spelling

@@ -1,4 +1,5 @@
 pub mod Behind
+pub mod Clean
 pub mod Early
 pub mod Escaped
 pub mod Framed

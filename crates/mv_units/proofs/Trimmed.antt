@@ -16,11 +16,11 @@ trimmed-zero (b ∷ s) =
     ∙ ap (λ rest. cond (all_zero (b ∷ s)) [] (b ∷ rest)) (trimmed-zero s)
 
 -- the last byte of a string, behind its first
-abbrev last_byte : ℕ → List ℕ → ℕ
+abbrev pub last_byte : ℕ → List ℕ → ℕ
 last_byte b [] = b
 last_byte b (c ∷ s) = last_byte c s
 
-last-is : (b : ℕ) (s : List ℕ) → get_or (b ∷ s) (length s) 0 ≡ last_byte b s
+pub last-is : (b : ℕ) (s : List ℕ) → get_or (b ∷ s) (length s) 0 ≡ last_byte b s
 last-is b [] = refl
 last-is b (c ∷ s) = last-is c s
 

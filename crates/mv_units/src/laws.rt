@@ -1,11 +1,12 @@
 //! Laws of the definitions. Each function has an empty body, and its contract is the law.
 #![tactic(auto)]
 
-ghost use Rattle.std.specs.Prelude.{◌≡◌, ◌≤◌, ◌++◌, ◌∷◌, [], ℕ, List, Bool, true, false, None, Some, All, map, length};
+ghost use Rattle.std.specs.Prelude.{◌≡◌, ◌≤◌, ◌++◌, ◌∷◌, [], ℕ, List, Bool, true, false, None, Some, All, map, length, take};
 ghost use Rattle.mv_rules.specs.declared.refusal.Refusal.{Refusal};
 ghost use Rattle.mv_units.specs.Framing.{IsFramable, frame};
+ghost use Rattle.mv_units.specs.Rules.{unit_rule};
 ghost use Rattle.mv_units.specs.Shown.{IsOneOf, StartsWith, early_rules, refusal_shown, whole_units};
-ghost use Rattle.mv_units.specs.Units.{IsSplit, NalUnit, leading, pieces, units};
+ghost use Rattle.mv_units.specs.Units.{IsSplit, NalUnit, has_code, leading, pieces, trimmed, units};
 
 /// The pieces of a string are its one split at start code prefixes (Annex B).
 pub fn pieces_are_the_one_split()
@@ -18,6 +19,22 @@ pub fn framed_units_are_split_again()
     ensures units { (us : List (List ℕ)) → All IsFramable us → map (λ (u : NalUnit). u.bytes) (units (frame us)) ≡ us }
     ensures leading { (us : List (List ℕ)) → leading (frame us) ≡ None }
     ensures append { (us vs : List (List ℕ)) → frame (us ++ vs) ≡ frame us ++ frame vs }
+{}
+
+/// Each unit of a byte string holds no start code prefix, and no zero byte at its end (Annex B). So the units of a
+/// string that the rules on a unit's own bytes accept are carried unchanged when they are framed, and what is framed
+/// of units that break none of them is accepted (this project's profile).
+pub fn units_are_framed_unchanged()
+    ensures clean { (s : List ℕ) → All (λ (u : NalUnit). has_code u.bytes ≡ false) (units s) }
+    ensures ends { (s : List ℕ) → All (λ (u : NalUnit). trimmed u.bytes ≡ u.bytes) (units s) }
+    ensures framable { (s : List ℕ) → refusal_shown true s ≡ None → All IsFramable (map (λ (u : NalUnit). u.bytes) (units s)) }
+    ensures accepted { (s : List ℕ) → leading s ≡ None → All (λ (u : NalUnit). unit_rule u.bytes ≡ None) (units s) → refusal_shown true s ≡ None }
+{}
+
+/// A list that begins with another begins as that one does (this project's profile).
+pub fn lists_begin_alike()
+    ensures first { (xs ys : List NalUnit) (n : ℕ) → StartsWith xs ys → n ≤ length ys → take n xs ≡ take n ys }
+    ensures length { (xs ys : List NalUnit) → StartsWith xs ys → length ys ≤ length xs }
 {}
 
 /// However a string goes on, its units but the last stay, at the last one's place a unit stands (Annex B),

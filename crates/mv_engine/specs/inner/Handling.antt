@@ -113,16 +113,16 @@ HandlesPiece f m start first Holds now out reading number s piece (Ok _) = IdleB
 HandlesPiece f m start first Holds now out reading number s piece (Err error) = Leaves f m start first out false (s ++ piece) error
 
 -- each answer once the input ended behind the bytes `s`, and the visitor took the end
-abbrev pub HandlesEnd : {V O F : Type 0} → Format → Meaning V O F → V → O → O → List ℕ → Result ⊤ (DriveError F) → Type 0
-HandlesEnd f m start first out s (Ok _) = (event f (m.judge start) s ≡ None) × m.closed start first out (f.whole true s)
-HandlesEnd f m start first out s (Err error) = Leaves f m start first out true s error
+abbrev pub HandlesEnd : {V O F : Type 0} → Format → Meaning V O F → V → V → O → O → List ℕ → Result ⊤ (DriveError F) → Type 0
+HandlesEnd f m start new first out s (Ok _) = (event f (m.judge start) s ≡ None) × m.closed start new first out (f.whole true s)
+HandlesEnd f m start new first out s (Err error) = Leaves f m start first out true s error
 
 -- each answer of the visitor to the end behind all units of `s`
-abbrev pub ClosesOne : {V O F : Type 0} → Meaning V O F → V → O → O → ℕ → ℕ → List NalUnit → Result ⊤ (DriveError F) → Type 0
-ClosesOne m start first out number taken us (Ok _) = ((m.judge start).ending us ≡ None) × m.closed start first out us
-ClosesOne m start first out number taken us (Err (Stopped stop)) =
+abbrev pub ClosesOne : {V O F : Type 0} → Meaning V O F → V → V → O → O → ℕ → ℕ → List NalUnit → Result ⊤ (DriveError F) → Type 0
+ClosesOne m start new first out number taken us (Ok _) = ((m.judge start).ending us ≡ None) × m.closed start new first out us
+ClosesOne m start new first out number taken us (Err (Stopped stop)) =
     (stop.unit ≡ number) × (stop.byte ≡ taken) × ((m.judge start).ending us ≡ Some stop.why) × m.wrote start first out us
-ClosesOne m start first out number taken us (Err Read) = ⊥
-ClosesOne m start first out number taken us (Err TooLong) = ⊥
-ClosesOne m start first out number taken us (Err Memory) = ⊥
-ClosesOne m start first out number taken us (Err (Fault fault)) = m.failed start first out true us fault
+ClosesOne m start new first out number taken us (Err Read) = ⊥
+ClosesOne m start new first out number taken us (Err TooLong) = ⊥
+ClosesOne m start new first out number taken us (Err Memory) = ⊥
+ClosesOne m start new first out number taken us (Err (Fault fault)) = m.failed start first out true us fault

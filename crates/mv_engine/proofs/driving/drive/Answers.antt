@@ -12,5 +12,5 @@ returns-in-Err-clause-settles g c = λ calm. excused (g.S.Source.state c.args.so
 
 pub returns-clause-settles : goal.returns-clause-settles
 returns-clause-settles g c =
-    settles g.R.UnitReader.format g.V.Visitor.meaning g.met.R.UnitReader.is_format c.args.visitor.now c.args.out.now c.drive_pieces.new.out c.args.limit
+    settles g.R.UnitReader.format g.V.Visitor.meaning g.met.R.UnitReader.is_format c.args.visitor.now c.drive_pieces.new.visitor c.args.out.now c.drive_pieces.new.out c.args.limit
     (input_of (g.S.Source.state c.args.source.now) (g.S.Source.state c.drive_pieces.new.source)) c.drive_pieces.result c.drive_pieces.ensures.driven

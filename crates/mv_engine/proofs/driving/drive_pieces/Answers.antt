@@ -17,7 +17,7 @@ returns-in-Ok-eq0-clause-driven g c =
     let start = c.args.visitor.now in
     let first = c.args.out.now in
     let gains = c.in-Ok-eq0.ensures.reads start first going.taken going.idle in
-    end-driven g.R.UnitReader.format m start first c.handle_end.new.out c.args.limit _ going.taken c.handle_end.result
+    end-driven g.R.UnitReader.format m start c.handle_end.new.visitor first c.handle_end.new.out c.args.limit _ going.taken c.handle_end.result
     (gains-took _ _ c.in-Ok-eq0.field-0 going.taken going.took gains c.in-Ok-eq0.field-0-test)
     (omega (arith, going.within)) (idle-quiet going.idle)
     (c.handle_end.ensures.handles start first going.taken (gains-idle _ _ c.in-Ok-eq0.field-0 going.taken gains c.in-Ok-eq0.field-0-test))
@@ -52,7 +52,7 @@ returns-in-Ok-false-clause-driven g c =
     let going = c.loop-room.invariant.going in
     let start = c.args.visitor.now in
     let first = c.args.out.now in
-    end-driven g.R.UnitReader.format g.V.Visitor.meaning start first c.handle_end-in-Ok-false.new.out c.args.limit _ going.taken c.handle_end-in-Ok-false.result
+    end-driven g.R.UnitReader.format g.V.Visitor.meaning start c.handle_end-in-Ok-false.new.visitor first c.handle_end-in-Ok-false.new.out c.args.limit _ going.taken c.handle_end-in-Ok-false.result
     (Took-end going.took (rw c.in-Ok-false.field-0-test at c.in-Ok-false.ensures.ends))
     (omega (arith, going.within)) (idle-quiet going.idle)
     (c.handle_end-in-Ok-false.ensures.handles start first going.taken going.idle)

@@ -23,7 +23,7 @@ returns-in-Ok-handle_unit g c = record {
       let handles = c.in-Ok-handle_unit.ensures.handles start first s
       (ended-handled g.met.R.UnitReader.is_format idle holds (g.met.R.UnitReader.means _ s holds) c.in-Ok.ensures.given c.in-Ok.ensures.ended) in
       let all = all-ended handles.0 handles.1 (handles.2 ∙ c.in-Ok.ensures.ended) in
-      end-closed g.R.UnitReader.format g.V.Visitor.meaning start first c.handle_unit.new.visitor _ c.close.new.out _ _ s c.close.result all (sym c.requires.count ∙ idle.handled.means.fed)
+      end-closed g.R.UnitReader.format g.V.Visitor.meaning start first c.handle_unit.new.visitor c.close.new.visitor _ c.close.new.out _ _ s c.close.result all (sym c.requires.count ∙ idle.handled.means.fed)
       (c.close.ensures.closes start first _ all.stands all.wrote);
 }
 

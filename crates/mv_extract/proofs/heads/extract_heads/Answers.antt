@@ -1,21 +1,22 @@
-use Rattle.mv_extract.proofs.Ended.{by-rule, no-scanner, read-fails, refuses, too-long}
+use Rattle.std.proofs.Common.{refl}
+use Rattle.mv_judging.specs.Format.{byte_stream}
+use Rattle.mv_extract.specs.Keeping.{keeper, text-nothing}
+use Rattle.mv_extract.specs.Text.{base_layer, nothing}
+use Rattle.mv_extract.proofs.Ended.{by-rule, done, ended, no-reader}
+use Rattle.mv_extract.proofs.Sound.{heads-sound}
 use Rattle.mv_extract.proofs.heads.extract_heads.Goals as goal
 
 pub returns-in-Err-clause-answers : goal.returns-in-Err-clause-answers
-returns-in-Err-clause-answers g c = no-scanner c.args.limit (g.S.Source.state c.args.source.now) (g.K.Sink.state c.args.sink.now)
+returns-in-Err-clause-answers g c = no-reader byte_stream base_layer nothing c.args.limit (g.S.Source.state c.args.source.now) (g.K.Sink.state c.args.sink.now) text-nothing
 
-pub returns-in-Err-Read-clause-answers : goal.returns-in-Err-Read-clause-answers
-returns-in-Err-Read-clause-answers g c =
-    read-fails g.K.Sink.state _ c.args.sink.now c.drive.new.out c.args.limit _ (rw c.in-Err-Read.field-0-is at c.in-Err-Read.ensures.driven)
+pub of-requires : goal.of-requires
+of-requires g c =
+    by-rule byte_stream g.K.Sink.state keeper _ _ c.args.sink.now c.drive.new.out c.args.limit _ c.in-Err-drive.error heads-sound c.in-Err-drive.ensures.driven
 
-pub returns-in-Err-TooLong-clause-answers : goal.returns-in-Err-TooLong-clause-answers
-returns-in-Err-TooLong-clause-answers g c =
-    too-long g.K.Sink.state _ c.args.sink.now c.drive.new.out c.args.limit _ (rw c.in-Err-TooLong.field-0-is at c.in-Err-TooLong.ensures.driven)
+pub returns-in-Ok-drive-clause-answers : goal.returns-in-Ok-drive-clause-answers
+returns-in-Ok-drive-clause-answers g c =
+    (done byte_stream g.K.Sink.state keeper nothing _ _ c.args.sink.now c.drive.new.out c.args.limit _ tt c.in-Ok-drive.ensures.driven (λ us stands. refl)).answers
 
-pub refusal-requires : goal.refusal-requires
-refusal-requires g c =
-    by-rule g.K.Sink.state _ c.args.sink.now c.drive.new.out c.args.limit _ c.in-Err-Stopped.stop (rw c.in-Err-Stopped.field-0-is at c.in-Err-Stopped.ensures.driven)
-
-pub returns-in-Err-Stopped-clause-answers : goal.returns-in-Err-Stopped-clause-answers
-returns-in-Err-Stopped-clause-answers g c =
-    refuses g.K.Sink.state _ c.args.sink.now c.drive.new.out c.args.limit _ c.in-Err-Stopped.stop c.refusal.result (rw c.in-Err-Stopped.field-0-is at c.in-Err-Stopped.ensures.driven) c.refusal.ensures
+pub returns-clause-answers : goal.returns-clause-answers
+returns-clause-answers g c =
+    (ended byte_stream g.K.Sink.state keeper nothing _ _ c.args.sink.now c.drive.new.out c.args.limit _ c.in-Err-drive.error c.of.result heads-sound c.in-Err-drive.ensures.driven c.of.ensures).answers

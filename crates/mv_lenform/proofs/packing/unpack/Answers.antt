@@ -1,5 +1,11 @@
-use Rattle.mv_lenform.proofs.Carried.{no-reader}
+use Rattle.std.proofs.Common.{length}
+use Rattle.mv_prefixed.specs.Form.{length_form}
+use Rattle.mv_extract.proofs.Ended.{no-reader}
+use Rattle.mv_lenform.specs.Begun.{text-nothing}
+use Rattle.mv_lenform.specs.Carrying.{carrying}
+use Rattle.mv_lenform.specs.declared.carrier.Target.TheVariants.{Framed}
 use Rattle.mv_lenform.proofs.packing.unpack.Goals as goal
 
 pub returns-in-Err-clause-answers : goal.returns-in-Err-clause-answers
-returns-in-Err-clause-answers g c = no-reader _ _ c.args.limit (g.S.Source.state c.args.source.now) (g.K.Sink.state c.args.sink.now)
+returns-in-Err-clause-answers g c =
+    no-reader length_form (carrying Framed) length c.args.limit (g.S.Source.state c.args.source.now) (g.K.Sink.state c.args.sink.now) (text-nothing Framed)
