@@ -1,4 +1,4 @@
-ghost use Rattle.std.specs.Prelude.{◌≡◌, ◌++◌, IfOk, OnOk, OnErr};
+ghost use Rattle.std.specs.Prelude.{◌≡◌, ◌++◌, IfOk, OnOk, OnErr, MatchResult};
 ghost use Rattle.mv_syntax.specs.Table.{Valid, Reads, Cut, bits_of};
 ghost use Rattle.mv_syntax.specs.Printed.{printed};
 ghost use Rattle.mv_rules.specs.declared.rule.Rule.TheVariants.{VpsSyntax};
@@ -110,7 +110,7 @@ impl VpsExt {
     /// Reads the extension of a video parameter set (F.7.3.2.1.1), as `part` does.
     ///
     /// `Refused` with the rule that `part` finds broken, or with `VpsSyntax` where it finds too few bits. `Memory` where memory
-    /// runs out.
+    /// runs out. After a fault the reader stands where it stood.
     pub fn read(
         alloc: Global,
         bits: &mut BitReader,
@@ -119,9 +119,14 @@ impl VpsExt {
         requires { AreVpsArgs args.now }
         ensures answers { ReadsWhole (λ v. Reads (vps_extension args.now) bits.old.left v.0 bits.new.left) (Cut (vps_extension args.now) bits.old.left) VpsSyntax result }
         ensures derived { IfOk result (λ v. v.1 ≡ derived args.now v.0) }
+        ensures place { MatchResult result (λ _. bits.new.total ≡ bits.old.total) (λ _. bits.new ≡ bits.old) }
     {
-        match VpsExt::part(alloc, bits, args) {
-            Ok(value) => Ok(value),
+        let mut ahead = bits.fork();
+        match VpsExt::part(alloc, &mut ahead, args) {
+            Ok(value) => {
+                *bits = ahead;
+                Ok(value)
+            }
             Err(fault) => Err(fault.refusal(Rule::VpsSyntax)),
         }
     }
