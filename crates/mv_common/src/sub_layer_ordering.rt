@@ -195,7 +195,10 @@ impl SubLayerOrdering {
         ensures { OnOk result (out.new ≡ printed (sub_layer_ordering set subs) self.now out.old) }
     {
         let first = first_coded(self.sub_layer_ordering_info_present_flag, subs);
-        out.flag(info_present_name(set), self.sub_layer_ordering_info_present_flag)?;
+        out.flag(
+            info_present_name(set),
+            self.sub_layer_ordering_info_present_flag,
+        )?;
         print_sub_layers(out, &self.sub_layers, set, first, subs)?;
         Ok(())
     }

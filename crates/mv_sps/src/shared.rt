@@ -12,9 +12,7 @@ ghost use Rattle.mv_common.specs.SubLayerOrdering.{sub_layer_ordering};
 ghost use Rattle.mv_common.specs.Vui.{vui_parameters};
 
 use mv_bits::BitReader;
-use mv_common::{
-    ParameterSet, ProfileArgs, ProfileTier, SubLayerOrdering, Vui, VuiArgs,
-};
+use mv_common::{ParameterSet, ProfileArgs, ProfileTier, SubLayerOrdering, Vui, VuiArgs};
 use mv_fields::{Fault, Printer, under};
 use mv_rules::Rule;
 use std::alloc::{AllocError, Global};
