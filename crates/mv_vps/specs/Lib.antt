@@ -1,8 +1,8 @@
-pub mod Faults
-pub mod Head
+pub mod Opening
 pub mod Ordering
 pub mod LayerSets
 pub mod Timing
 pub mod Base
 pub mod Vps
 pub mod Formats
+pub mod Getters

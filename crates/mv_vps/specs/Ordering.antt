@@ -1,15 +1,15 @@
--- The sub-layers' numbers of pictures in a video parameter set (7.3.2.1). A number over 15 breaks the limit rule, 26 (this
--- project's profile).
+-- The sub-layers' numbers of pictures in a video parameter set (7.3.2.1). A number over 15 breaks the limit rule (this project's
+-- profile).
 use Rattle.std.specs.Prelude.{ℕ, ◌+◌, ◌-◌, List, refl, if◌then◌else◌}
 use Rattle.mv_syntax.specs.Table.{Table, ◌>>=◌, u, ue, named, shaped}
 use Rattle.mv_syntax.specs.Words.{◌▸◌, ◌>>◌, ◌!◌∶◌, over, is_set}
-use Rattle.mv_syntax.specs.Loops.{items}
+use Rattle.mv_syntax.specs.Loops.{each, items}
 use Rattle.mv_rules.specs.declared.rule.Rule.TheVariants.{VpsLimit}
 use Rattle.mv_vps.specs.declared.ordering.VpsSubLayer.{VpsSubLayer}
 
--- The numbers of sub-layer i.
-unfoldable pub sub_layer : ℕ → Table VpsSubLayer
-sub_layer i = shaped
+-- The numbers of a sub-layer.
+unfoldable pub sub_layer : Table VpsSubLayer
+sub_layer = shaped
     (λ (vps_max_dec_pic_buffering_minus1, (vps_max_num_reorder_pics, vps_max_latency_increase_plus1)). record {
       vps_max_dec_pic_buffering_minus1 = vps_max_dec_pic_buffering_minus1;
       vps_max_num_reorder_pics = vps_max_num_reorder_pics;
@@ -27,7 +27,7 @@ sub_layer i = shaped
 
 -- for i = first to vps_max_sub_layers_minus1
 unfoldable pub sub_layers : ℕ → ℕ → Table (List VpsSubLayer)
-sub_layers first vps_max_sub_layers_minus1 = items first (vps_max_sub_layers_minus1 + 1 - first) sub_layer
+sub_layers first vps_max_sub_layers_minus1 = items first (vps_max_sub_layers_minus1 + 1 - first) (each sub_layer)
 
 -- The first sub-layer that is coded: 0 where all are, and else the highest alone.
 abbrev pub first_coded : ℕ → ℕ → ℕ

@@ -4,9 +4,9 @@ ghost use Rattle.mv_syntax.specs.Printed.{printed};
 ghost use Rattle.mv_fields.specs.Reading.{ReadsBy, ReadsAs};
 ghost use Rattle.mv_vps.specs.Ordering.{sub_layer, sub_layers, first_coded, ordering};
 
-use crate::fields::ue_within;
 use mv_bits::BitReader;
-use mv_fields::{print_u8, print_ue, u8_of};
+use mv_fields::{Fault, Printer, u8_of, ue_within};
+use mv_rules::Rule;
 use std::alloc::{AllocError, Global};
 use std::marker::Model;
 
@@ -37,17 +37,17 @@ impl Model for VpsOrdering {
 }
 
 #[tactic(auto, unfolding(crate::specs::Ordering::sub_layer))]
-fn sub_layer_of(bits: &mut BitReader, i: u8) -> Result<VpsSubLayer, Fault<Rule>>
-    ensures { ReadsBy (sub_layer i) bits.old bits.new result }
+fn sub_layer_of(bits: &mut BitReader) -> Result<VpsSubLayer, Fault<Rule>>
+    ensures { ReadsBy sub_layer bits.old bits.new result }
 {
     Ok(VpsSubLayer {
-        vps_max_dec_pic_buffering_minus1: ue_within(bits, 15)?,
-        vps_max_num_reorder_pics: ue_within(bits, 15)?,
+        vps_max_dec_pic_buffering_minus1: ue_within(bits, Rule::VpsLimit, 15)?,
+        vps_max_num_reorder_pics: ue_within(bits, Rule::VpsLimit, 15)?,
         vps_max_latency_increase_plus1: bits.ue()?,
     })
 }
 
-#[tactic(auto, using(mv_syntax::proofs::LoopLaws::item_steps), unfolding(crate::specs::Ordering::sub_layers))]
+#[tactic(auto, using(mv_syntax::proofs::LoopLaws::item_steps), unfolding(crate::specs::Ordering::sub_layers, mv_syntax::specs::Loops::each))]
 fn sub_layers_of(
     alloc: Global,
     bits: &mut BitReader,
@@ -61,12 +61,12 @@ fn sub_layers_of(
     let end = subs + 1;
     let mut all = Vec::new(alloc);
     for i in first..end {
-        all.push(sub_layer_of(bits, i)?)?;
+        all.push(sub_layer_of(bits)?)?;
     }
     Ok(all)
 }
 
-// The first sub-layer that is coded.
+/// The first sub-layer that is coded.
 fn first_coded(flag: u8, subs: u8) -> u8
     ensures first { result ≡ first_coded flag subs }
     ensures within { result ≤ subs }
@@ -75,11 +75,7 @@ fn first_coded(flag: u8, subs: u8) -> u8
 }
 
 #[tactic(auto, unfolding(crate::specs::Ordering::ordering))]
-pub(crate) fn ordering_of(
-    alloc: Global,
-    bits: &mut BitReader,
-    subs: u8,
-) -> Result<VpsOrdering, Fault<Rule>>
+pub(crate) fn ordering_of(alloc: Global, bits: &mut BitReader, subs: u8) -> Result<VpsOrdering, Fault<Rule>>
     requires { subs ≤ 6 }
     ensures { ReadsBy (ordering subs) bits.old bits.new result }
 {
@@ -93,16 +89,22 @@ pub(crate) fn ordering_of(
 }
 
 #[tactic(auto, unfolding(crate::specs::Ordering::sub_layer))]
-fn print_sub_layer(out: &mut Printer, v: &VpsSubLayer, i: usize) -> Result<(), AllocError>
-    requires { Valid (sub_layer i) v.now }
-    ensures { OnOk result (out.new ≡ printed (sub_layer i) v.now out.old) }
+fn print_sub_layer(out: &mut Printer, v: &VpsSubLayer) -> Result<(), AllocError>
+    requires { Valid sub_layer v.now }
+    ensures { OnOk result (out.new ≡ printed sub_layer v.now out.old) }
 {
-    out.ue("vps_max_dec_pic_buffering_minus1", v.vps_max_dec_pic_buffering_minus1)?;
+    out.ue(
+        "vps_max_dec_pic_buffering_minus1",
+        v.vps_max_dec_pic_buffering_minus1,
+    )?;
     out.ue("vps_max_num_reorder_pics", v.vps_max_num_reorder_pics)?;
-    out.ue("vps_max_latency_increase_plus1", v.vps_max_latency_increase_plus1)
+    out.ue(
+        "vps_max_latency_increase_plus1",
+        v.vps_max_latency_increase_plus1,
+    )
 }
 
-#[tactic(auto, using(mv_syntax::proofs::PrintingLoops::print_item_steps), unfolding(crate::specs::Ordering::sub_layers))]
+#[tactic(auto, using(mv_syntax::proofs::PrintingLoops::print_item_steps), unfolding(crate::specs::Ordering::sub_layers, mv_syntax::specs::Loops::each))]
 fn print_sub_layers(
     out: &mut Printer,
     all: &[VpsSubLayer],
@@ -114,7 +116,7 @@ fn print_sub_layers(
 {
     for k in 0..all.len() {
         let outer = out.open(u64::from(first) + k as u64)?;
-        print_sub_layer(out, &all[k], usize::from(first) + k)?;
+        print_sub_layer(out, &all[k])?;
         out.close(outer);
     }
     Ok(())
@@ -126,6 +128,10 @@ pub(crate) fn print_ordering(out: &mut Printer, v: &VpsOrdering, subs: u8) -> Re
     ensures { OnOk result (out.new ≡ printed (ordering subs) v.now out.old) }
 {
     let first = first_coded(v.vps_sub_layer_ordering_info_present_flag, subs);
-    out.flag("vps_sub_layer_ordering_info_present_flag", v.vps_sub_layer_ordering_info_present_flag)?;
-    print_sub_layers(out, &v.sub_layers, first, subs)
+    out.flag(
+        "vps_sub_layer_ordering_info_present_flag",
+        v.vps_sub_layer_ordering_info_present_flag,
+    )?;
+    print_sub_layers(out, &v.sub_layers, first, subs)?;
+    Ok(())
 }

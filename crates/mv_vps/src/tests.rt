@@ -582,7 +582,7 @@ fn tails(rt: HostRuntime) -> Result<(), Fail> {
     Ok(())
 }
 
-fn head_numbers(h: &VpsHead) -> [u32; 7] {
+fn opening_numbers(h: &VpsOpening) -> [u32; 7] {
     [
         u32::from(h.vps_video_parameter_set_id),
         u32::from(h.vps_base_layer_internal_flag),
@@ -599,7 +599,7 @@ fn base_numbers(b: &VpsBase) -> [u32; 6] {
         u32::from(b.ordering.vps_sub_layer_ordering_info_present_flag),
         u32::from(b.layer_sets.vps_max_layer_id),
         b.layer_sets.vps_num_layer_sets_minus1,
-        u32::from(b.head.profile_tier_level.level_idc),
+        u32::from(b.opening.profile_tier_level.level_idc),
         u32::from(b.vps_timing_info_present_flag),
         u32::from(b.vps_extension_flag),
     ]
@@ -619,11 +619,11 @@ const MAIN: Profile = Profile {
     constraint_last_bit: 0,
 };
 
-fn has_main_profile(head: &VpsHead) -> bool {
-    head.profile_tier_level.profile == Some(MAIN)
+fn has_main_profile(opening: &VpsOpening) -> bool {
+    opening.profile_tier_level.profile == Some(MAIN)
 }
 
-// The fields of the head in coded order. Then whether all sub-layers have numbers of pictures, the greatest layer of a layer set,
+// The fields of the opening in coded order. Then whether all sub-layers have numbers of pictures, the greatest layer of a layer set,
 // the number of layer sets less 1, the level, and the flags of timing and extension.
 static BASES: [(&[u8], [u32; 7], [u32; 6]); 4] = [
     (TWO_VIEW, [0, 1, 1, 1, 0, 1, 65_535], [1, 1, 1, 93, 0, 1]),
@@ -634,10 +634,10 @@ static BASES: [(&[u8], [u32; 7], [u32; 6]); 4] = [
 
 #[test]
 fn bases(rt: HostRuntime) -> Result<(), Fail> {
-    for (payload, head, base) in &BASES {
+    for (payload, opening, base) in &BASES {
         let vps = read(rt.alloc(), payload)?;
-        assert_eq!(rt; head_numbers(&vps.base.head), *head);
-        assert!(rt; has_main_profile(&vps.base.head));
+        assert_eq!(rt; opening_numbers(&vps.base.opening), *opening);
+        assert!(rt; has_main_profile(&vps.base.opening));
         assert_eq!(rt; base_numbers(&vps.base), *base);
     }
     Ok(())
@@ -687,11 +687,11 @@ fn ext_numbers(ext: &VpsExt) -> [u32; 9] {
         u32::from(ext.dimensions.vps_nuh_layer_id_present_flag),
         u32::from(ext.dimensions.view_id_len),
         u32::from(ext.dependencies.vps_sub_layers_max_minus1_present_flag),
-        u32::from(ext.profiles.default_ref_layers_active_flag),
+        u32::from(ext.dependencies.default_ref_layers_active_flag),
         ext.profiles.vps_num_profile_tier_level_minus1,
         ext.formats.vps_num_rep_formats_minus1,
-        u32::from(ext.formats.max_one_active_ref_layer_flag),
-        u32::from(ext.types.vps_vui_present_flag),
+        u32::from(ext.pictures.max_one_active_ref_layer_flag),
+        u32::from(ext.ending.vps_vui_present_flag),
     ]
 }
 
