@@ -1,8 +1,10 @@
 -- What the getters of a valid video parameter set need.
 use Rattle.std.proofs.Common.{◌≡◌, ℕ, zero, suc, ◌+◌, ◌<◌, ◌≤◌, Bool, true, false, List, [], ◌∷◌, length, get_or, take, map, Option, Some, None, refl, sym, ap, ◌∙◌, subst, arith, nat_lt, cond}
 use Rattle.std.specs.List.{enumerate_from}
+use Rattle.std.proofs.lemmas.List.{length-map}
 use Rattle.std.proofs.lemmas.List.FromFn.{length-enumerate_from}
 use Rattle.mv_syntax.specs.Table.{Valid, ue, when}
+use Rattle.mv_syntax.specs.Loops.{each}
 use Rattle.mv_syntax.specs.Words.{over, is_set, or_zero, ◌!◌∶◌}
 use Rattle.mv_syntax.proofs.LoopLaws.{items-length}
 use Rattle.mv_vpsext.specs.Args.{VpsArgsValue, AreVpsArgs, layer_set, layer_sets}
@@ -12,7 +14,6 @@ use Rattle.mv_vpsext.specs.DpbSizes.{DpbSetValue}
 use Rattle.mv_vpsext.specs.OutputSets.{VpsOutputSetsValue, past_output_sets, output_layer_sets, output_sets}
 use Rattle.mv_vpsext.specs.Sets.{coded_set, coded_sets, all_sets}
 use Rattle.mv_vpsext.specs.Derived.{numbered_ols, all_ols, derived}
-use Rattle.mv_vpsext.proofs.SetLayerLaws.{length-map}
 use Rattle.mv_vps.specs.Base.{aligned_base, args_of}
 use Rattle.mv_vps.specs.Vps.{VpsValue, vps_fields, described, WholeVps, ValidVps}
 use Rattle.mv_vps.proofs.FormatSteps.{Small, ext_small}
@@ -48,15 +49,15 @@ number_of_ols : (infos : List LayerInfoValue) (sets : List (List ℕ)) (coded : 
 unfolding all_ols coded_sets
 number_of_ols infos sets coded sizes =
     let idc : ℕ = or_zero coded.default_output_layer_idc in
-    length-map (numbered_ols sizes) (enumerate_from 0 (all_sets infos sets coded))
+    length-map (enumerate_from 0 (all_sets infos sets coded)) (numbered_ols sizes)
     ∙ length-enumerate_from 0 (all_sets infos sets coded)
-    ∙ ap suc (length-map (λ numbered. coded_set infos sets idc numbered.0 numbered.1) (enumerate_from 1 coded.output_layer_sets) ∙ length-enumerate_from 1 coded.output_layer_sets)
+    ∙ ap suc (length-map (enumerate_from 1 coded.output_layer_sets) (λ numbered. coded_set infos sets idc numbered.0 numbered.1) ∙ length-enumerate_from 1 coded.output_layer_sets)
 
 sets_few : (args : VpsArgsValue) (ext : VpsExtValue) → AreVpsArgs args → Valid (vps_extension args) ext → length (derived args ext).sets ≤ 1024
 unfolding vps_extension output_sets output_layer_sets layer_sets
 sets_few args ext are h =
     let count : length args.layer_id_included_flag ≡ args.vps_num_layer_sets_minus1 =
-    items-length (λ _. layer_set args.vps_max_layer_id) 1 args.vps_num_layer_sets_minus1 args.layer_id_included_flag are.each_set in
+    items-length (each (layer_set args.vps_max_layer_id)) 1 args.vps_num_layer_sets_minus1 args.layer_id_included_flag are.each_set in
     let few : length args.layer_id_included_flag + or_zero ext.output_sets.num_add_olss ≤ 1023 =
     added_few (length args.layer_id_included_flag) ext.output_sets.num_add_olss (omega (arith, count, are.sets)) h.0.1.1.1.0.0.0 in
     let coded : length ext.output_sets.output_layer_sets ≡ length args.layer_id_included_flag + or_zero ext.output_sets.num_add_olss =

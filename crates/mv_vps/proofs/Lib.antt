@@ -3,3 +3,4 @@ pub mod Aligned
 pub mod Extending
 pub mod FormatSteps
 pub mod Getting
+pub mod Whole

@@ -1,9 +1,9 @@
-ghost use Rattle.std.specs.Prelude.{◌≡◌, ◌≤◌, ◌<◌, ◌^◌, [], true, length, Ok, Err, OnOk, MatchResult};
+ghost use Rattle.std.specs.Prelude.{◌≡◌, ◌≤◌, ◌<◌, ◌^◌, [], true, length, Ok, Err, OnOk, MatchResult, ◌⊎◌};
 ghost use Rattle.mv_syntax.specs.Bits.{align_bits, short};
 ghost use Rattle.mv_syntax.specs.Cursor.{place};
 ghost use Rattle.mv_syntax.specs.Table.{Valid, behind};
-ghost use Rattle.mv_syntax.specs.Printed.{printed};
-ghost use Rattle.mv_fields.specs.Output.{bits_in};
+ghost use Rattle.mv_syntax.specs.Printed.{bits, printed};
+ghost use Rattle.mv_fields.specs.Output.{IsText};
 ghost use Rattle.mv_fields.specs.Reading.{ReadsBy};
 ghost use Rattle.mv_vps.specs.Base.{base, aligned_base};
 
@@ -118,7 +118,7 @@ pub(crate) fn aligned_base_of(alloc: Global, bits: &mut BitReader) -> Result<Vps
 
 /// Prints the same at the head of a payload.
 pub(crate) fn print_aligned_base(out: &mut Printer, v: &VpsBase) -> Result<(), AllocError>
-    requires at_head { bits_in out.old ≡ [] }
+    requires at_head { (out.old ≡ bits []) ⊎ IsText out.old }
     requires few { v.now.opening.vps_max_sub_layers_minus1 ≤ 6 }
     requires valid { Valid aligned_base v.now }
     ensures { OnOk result (out.new ≡ printed aligned_base v.now out.old) }

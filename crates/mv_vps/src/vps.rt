@@ -1,7 +1,7 @@
-ghost use Rattle.std.specs.Prelude.{◌≡◌, ◌≤◌, ◌<◌, ◌^◌, [], length, OnOk, IfOk};
+ghost use Rattle.std.specs.Prelude.{◌≡◌, ◌≤◌, ◌<◌, ◌^◌, [], length, OnOk, IfOk, ◌⊎◌};
 ghost use Rattle.mv_syntax.specs.Table.{Valid};
-ghost use Rattle.mv_syntax.specs.Printed.{printed};
-ghost use Rattle.mv_fields.specs.Output.{bits_in};
+ghost use Rattle.mv_syntax.specs.Printed.{bits, printed};
+ghost use Rattle.mv_fields.specs.Output.{IsText};
 ghost use Rattle.mv_fields.specs.Reading.{ReadsAs};
 ghost use Rattle.mv_vpsext.specs.Args.{AreVpsArgs};
 ghost use Rattle.mv_vps.specs.Base.{args_of};
@@ -74,7 +74,7 @@ pub(crate) fn fields_of(alloc: Global, bits: &mut BitReader) -> Result<Vps, Faul
 /// Prints the fields of a video parameter set at the head of a payload, up to the tail.
 #[tactic(auto, unfolding(crate::specs::Vps::vps_fields))]
 pub(crate) fn print_fields(out: &mut Printer, v: &Vps) -> Result<(), AllocError>
-    requires at_head { bits_in out.old ≡ [] }
+    requires at_head { (out.old ≡ bits []) ⊎ IsText out.old }
     requires few { v.now.coded.0.base.opening.vps_max_sub_layers_minus1 ≤ 6 }
     requires args { AreVpsArgs (args_of v.now.coded.0.base) }
     requires valid { Valid vps_fields v.now.coded.0 }

@@ -1,10 +1,10 @@
 use Rattle.std.proofs.Common.{◌≡◌}
 use Rattle.mv_syntax.specs.Table.{read}
-use Rattle.mv_syntax.specs.Loops.{rest_of_items}
+use Rattle.mv_syntax.specs.Loops.{each, rest_of_items}
 use Rattle.mv_vps.specs.Ordering.{sub_layer, sub_layers}
 use Rattle.mv_vps.proofs.ordering.sub_layers_of.Given as goal
 
 abbrev pub invariant-loop-i : goal.invariant-loop-i
 invariant-loop-i l =
-    (read (sub_layers l.first l.subs) l.fn.bits.left ≡ rest_of_items sub_layer l.i l.end l.all.items l.bits.left)
+    (read (sub_layers l.first l.subs) l.fn.bits.left ≡ rest_of_items (each sub_layer) l.i l.end l.all.items l.bits.left)
     × (l.bits.total ≡ l.fn.bits.total)
