@@ -35,6 +35,14 @@ fn rep_formats_of(extension: &Option<VpsExt>) -> &[RepFormat]
     }
 }
 
+// The index of the last format that an extension lists.
+fn last_format(ext: &VpsExt) -> u8
+    requires { ext.now.formats.vps_num_rep_formats_minus1 ≤ 255 }
+    ensures { result ≡ ext.now.formats.vps_num_rep_formats_minus1 }
+{
+    ext.formats.vps_num_rep_formats_minus1 as u8
+}
+
 // max_tid_il_ref_pics_plus1 of the layer of index j for the reference of index i: 7 where it isn't coded.
 fn max_tid_at(coded: &[LayerMaxTids], i: usize, j: usize) -> u8
     ensures { result ≡ max_tid_at coded.now i j }
@@ -81,7 +89,8 @@ impl Vps {
         requires { ValidVps self.now }
         ensures { result ≡ layer_index self.now.derived.layers layer }
     {
-        layer_index(&self.derived.layers, layer).map(|i| i as u8)
+        let i = layer_index(&self.derived.layers, layer)?;
+        Some(i as u8)
     }
 
     /// sub_layers_vps_max_minus1 of the layer of this nuh_layer_id (F.7.4.3.1.1): vps_max_sub_layers_minus1 where it isn't coded.
@@ -111,8 +120,8 @@ impl Vps {
         let i = self.layer_index(layer)?;
         match &self.extension {
             Some(ext) => {
-                let last = ext.formats.vps_num_rep_formats_minus1 as u8;
-                Some(rep_format_at(last, &ext.formats.vps_rep_format_idx, i))
+                let coded = &ext.formats.vps_rep_format_idx;
+                Some(rep_format_at(last_format(ext), coded, i))
             }
             None => Some(0),
         }
