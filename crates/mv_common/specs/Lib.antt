@@ -4,3 +4,4 @@ pub mod Hrd
 pub mod Vui
 pub mod ScalingListValue
 pub mod ScalingLists
+pub mod SubLayerOrdering

@@ -9,7 +9,6 @@ mod opening;
 mod payload;
 mod pps;
 mod quantization;
-mod scaling_lists;
 mod tiles;
 mod tools;
 

@@ -8,11 +8,10 @@ use crate::deblocking::{PpsDeblocking, deblocking_of, print_deblocking};
 use crate::extension::{PpsExtension, extension_if, print_extension_if};
 use crate::opening::{PpsOpening, opening_of, print_opening};
 use crate::quantization::{PpsQuantization, print_quantization, quantization_of};
-use crate::scaling_lists::{print_scaling_lists_if, scaling_lists_if};
 use crate::tiles::{PpsTiles, print_tiles_if, tiles_if};
 use crate::tools::{PpsTools, print_tools, tools_of};
 use mv_bits::BitReader;
-use mv_common::ScalingLists;
+use mv_common::{ScalingLists, print_scaling_lists_if, scaling_lists_if};
 use mv_fields::{Fault, Printer, u8_of};
 use mv_rules::Rule;
 use std::alloc::{AllocError, Global};
@@ -78,7 +77,12 @@ pub(crate) fn fields_of(alloc: Global, bits: &mut BitReader) -> Result<Pps, Faul
     let pps_loop_filter_across_slices_enabled_flag = u8_of(bits, 1)?;
     let deblocking = deblocking_of(bits)?;
     let pps_scaling_list_data_present_flag = u8_of(bits, 1)?;
-    let scaling_list_data = scaling_lists_if(alloc, bits, pps_scaling_list_data_present_flag == 1)?;
+    let scaling_list_data = scaling_lists_if(
+        alloc,
+        bits,
+        pps_scaling_list_data_present_flag == 1,
+        Rule::PpsLimit,
+    )?;
     let lists_modification_present_flag = u8_of(bits, 1)?;
     let log2_parallel_merge_level_minus2 = bits.ue()?;
     let slice_segment_header_extension_present_flag = u8_of(bits, 1)?;
@@ -122,7 +126,7 @@ pub(crate) fn print_fields(out: &mut Printer, v: &Pps) -> Result<(), AllocError>
         v.pps_scaling_list_data_present_flag,
     )?;
     let listed = v.pps_scaling_list_data_present_flag == 1;
-    print_scaling_lists_if(out, listed, &v.scaling_list_data)?;
+    print_scaling_lists_if(out, listed, &v.scaling_list_data, Rule::PpsLimit)?;
     out.flag(
         "lists_modification_present_flag",
         v.lists_modification_present_flag,

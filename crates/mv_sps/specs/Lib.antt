@@ -1,6 +1,5 @@
 pub mod Opening
 pub mod Format
-pub mod Ordering
 pub mod Blocks
 pub mod Scaling
 pub mod Tools

@@ -4,10 +4,11 @@ ghost use Rattle.mv_syntax.specs.Printed.{printed};
 ghost use Rattle.mv_fields.specs.Reading.{ReadsBy};
 ghost use Rattle.mv_sps.specs.Pictures.{pictures};
 
-use crate::ordering::{SpsOrdering, ordering_if, print_ordering_if};
 use crate::picture_format::{SpsPictureFormat, picture_format_if, print_picture_format_if};
 use crate::rep_format::{SpsRepFormat, print_rep_format_if, rep_format_if};
+use crate::shared::{ordering_if, print_ordering_if};
 use mv_bits::BitReader;
+use mv_common::SubLayerOrdering;
 use mv_fields::{Fault, Printer, ue_within};
 use mv_rules::Rule;
 use std::alloc::{AllocError, Global};
@@ -20,7 +21,7 @@ pub struct SpsPictures {
     pub rep_format: Option<SpsRepFormat>,
     pub picture_format: Option<SpsPictureFormat>,
     pub log2_max_pic_order_cnt_lsb_minus4: u32,
-    pub ordering: Option<SpsOrdering>,
+    pub ordering: Option<SubLayerOrdering>,
 }
 
 impl Model for SpsPictures {

@@ -4,9 +4,8 @@ ghost use Rattle.mv_syntax.specs.Printed.{printed};
 ghost use Rattle.mv_fields.specs.Reading.{ReadsBy};
 ghost use Rattle.mv_sps.specs.Scaling.{scaling};
 
-use crate::shared::{print_scaling_lists_if, scaling_lists_if};
 use mv_bits::BitReader;
-use mv_common::ScalingLists;
+use mv_common::{ScalingLists, print_scaling_lists_if, scaling_lists_if};
 use mv_fields::{Fault, Printer, coded_set, u8_if, u8_of};
 use mv_rules::Rule;
 use std::alloc::{AllocError, Global};
@@ -54,6 +53,7 @@ pub(crate) fn scaling_of(
         alloc,
         bits,
         coded_set(sps_scaling_list_data_present_flag),
+        Rule::SpsLimit,
     )?;
     Ok(SpsScaling {
         scaling_list_enabled_flag,
@@ -89,6 +89,6 @@ pub(crate) fn print_scaling(out: &mut Printer, v: &SpsScaling, ext: bool) -> Res
         "sps_scaling_list_data_present_flag",
         v.sps_scaling_list_data_present_flag,
     )?;
-    print_scaling_lists_if(out, present, &v.scaling_list_data)?;
+    print_scaling_lists_if(out, present, &v.scaling_list_data, Rule::SpsLimit)?;
     Ok(())
 }

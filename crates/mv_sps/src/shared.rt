@@ -7,11 +7,14 @@ ghost use Rattle.mv_syntax.specs.Printed.{printed};
 ghost use Rattle.mv_fields.specs.Reading.{ReadsBy};
 ghost use Rattle.mv_rules.specs.declared.rule.Rule.TheVariants.{SpsLimit};
 ghost use Rattle.mv_common.specs.ProfileTier.{profile_tier_level};
-ghost use Rattle.mv_common.specs.ScalingLists.{scaling_list_data};
+ghost use Rattle.mv_common.specs.declared.sub_layer_ordering.ParameterSet.TheVariants.{Sequence};
+ghost use Rattle.mv_common.specs.SubLayerOrdering.{sub_layer_ordering};
 ghost use Rattle.mv_common.specs.Vui.{vui_parameters};
 
 use mv_bits::BitReader;
-use mv_common::{ProfileArgs, ProfileTier, ScalingArgs, ScalingLists, Vui, VuiArgs};
+use mv_common::{
+    ParameterSet, ProfileArgs, ProfileTier, SubLayerOrdering, Vui, VuiArgs,
+};
 use mv_fields::{Fault, Printer, under};
 use mv_rules::Rule;
 use std::alloc::{AllocError, Global};
@@ -68,38 +71,46 @@ pub(crate) fn print_profile_tier_if(
 }
 
 #[tactic(auto, using(mv_fields::proofs::Shared::shared_steps))]
-fn scaling_lists_of(alloc: Global, bits: &mut BitReader) -> Result<ScalingLists, Fault<Rule>>
-    ensures { ReadsBy (scaling_list_data under SpsLimit) bits.old bits.new result }
+fn ordering_of(
+    alloc: Global,
+    bits: &mut BitReader,
+    subs: u8,
+) -> Result<SubLayerOrdering, Fault<Rule>>
+    requires { subs ≤ 6 }
+    ensures { ReadsBy (sub_layer_ordering Sequence subs under SpsLimit) bits.old bits.new result }
 {
     under(
         Rule::SpsLimit,
-        ScalingLists::read(alloc, bits, &ScalingArgs {}),
+        SubLayerOrdering::read(alloc, bits, ParameterSet::Sequence, subs),
     )
 }
 
-pub(crate) fn scaling_lists_if(
+pub(crate) fn ordering_if(
     alloc: Global,
     bits: &mut BitReader,
     present: bool,
-) -> Result<Option<ScalingLists>, Fault<Rule>>
-    ensures { ReadsBy (when present (scaling_list_data under SpsLimit)) bits.old bits.new result }
+    subs: u8,
+) -> Result<Option<SubLayerOrdering>, Fault<Rule>>
+    requires { subs ≤ 6 }
+    ensures { ReadsBy (when present (sub_layer_ordering Sequence subs under SpsLimit)) bits.old bits.new result }
 {
     if !present {
         return Ok(None);
     }
-    Ok(Some(scaling_lists_of(alloc, bits)?))
+    Ok(Some(ordering_of(alloc, bits, subs)?))
 }
 
-pub(crate) fn print_scaling_lists_if(
+pub(crate) fn print_ordering_if(
     out: &mut Printer,
     present: bool,
-    v: &Option<ScalingLists>,
+    v: &Option<SubLayerOrdering>,
+    subs: u8,
 ) -> Result<(), AllocError>
-    requires { Valid (when present (scaling_list_data under SpsLimit)) v.now }
-    ensures { OnOk result (out.new ≡ printed (when present (scaling_list_data under SpsLimit)) v.now out.old) }
+    requires { Valid (when present (sub_layer_ordering Sequence subs under SpsLimit)) v.now }
+    ensures { OnOk result (out.new ≡ printed (when present (sub_layer_ordering Sequence subs under SpsLimit)) v.now out.old) }
 {
     match v {
-        Some(v) => v.print(out, &ScalingArgs {}),
+        Some(v) => v.print(out, ParameterSet::Sequence, subs),
         None => Ok(()),
     }
 }
