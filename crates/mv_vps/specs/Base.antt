@@ -1,16 +1,19 @@
--- video_parameter_set_rbsp (7.3.2.1, F.7.3.2.1) up to vps_extension_flag, part by part: what every video parameter set has.
+-- video_parameter_set_rbsp (7.3.2.1, F.7.3.2.1) up to vps_extension_flag, part by part: what every video parameter set has. A
+-- sub-layer's number of pictures over 15 breaks the limit rule (this project's profile).
 use Rattle.std.specs.Prelude.{ℕ, true, Option, refl}
 use Rattle.mv_syntax.specs.Table.{Table, ◌>>=◌, u, named, when, shaped}
-use Rattle.mv_syntax.specs.Words.{◌▸◌, ◌>>◌, is_set, aligned_where}
+use Rattle.mv_syntax.specs.Words.{◌under◌, ◌▸◌, ◌>>◌, is_set, aligned_where}
+use Rattle.mv_rules.specs.declared.rule.Rule.TheVariants.{VpsLimit}
+use Rattle.mv_common.specs.declared.sub_layer_ordering.ParameterSet.TheVariants.{Video}
+use Rattle.mv_common.specs.SubLayerOrdering.{SubLayerOrderingValue, sub_layer_ordering}
 use Rattle.mv_vpsext.specs.Args.{VpsArgsValue}
 use Rattle.mv_vps.specs.Opening.{VpsOpeningValue, opening}
-use Rattle.mv_vps.specs.Ordering.{VpsOrderingValue, ordering}
 use Rattle.mv_vps.specs.LayerSets.{VpsLayerSetsValue, all_layer_sets}
 use Rattle.mv_vps.specs.Timing.{VpsTimingValue, timing}
 
 pub record VpsBaseValue : Type 0 where
   pub opening : VpsOpeningValue
-  pub ordering : VpsOrderingValue
+  pub ordering : SubLayerOrderingValue
   pub layer_sets : VpsLayerSetsValue
   pub vps_timing_info_present_flag : ℕ
   pub timing : Option VpsTimingValue
@@ -36,7 +39,7 @@ base = shaped
     (λ _. refl)
     do
       vps_opening ← opening
-      ordering vps_opening.vps_max_sub_layers_minus1
+      sub_layer_ordering Video vps_opening.vps_max_sub_layers_minus1 under VpsLimit
       all_layer_sets
       vps_timing_info_present_flag ← named "vps_timing_info_present_flag" (u 1)
       when (is_set vps_timing_info_present_flag) (timing vps_opening.vps_max_sub_layers_minus1)

@@ -1,5 +1,4 @@
 pub mod Opening
-pub mod Ordering
 pub mod LayerSets
 pub mod Timing
 pub mod Base

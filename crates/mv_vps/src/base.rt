@@ -9,9 +9,10 @@ ghost use Rattle.mv_vps.specs.Base.{base, aligned_base};
 
 use crate::layer_sets::{VpsLayerSets, all_layer_sets_of, print_all_layer_sets};
 use crate::opening::{VpsOpening, opening_of, print_opening};
-use crate::ordering::{VpsOrdering, ordering_of, print_ordering};
+use crate::shared::{ordering_of, print_ordering};
 use crate::timing::{VpsTiming, print_timing_if, timing_if};
 use mv_bits::{BitReader, NoBits};
+use mv_common::SubLayerOrdering;
 use mv_fields::{Fault, Printer, u8_of};
 use mv_rules::Rule;
 use std::alloc::{AllocError, Global};
@@ -21,7 +22,7 @@ use std::marker::Model;
 #[derive(Debug, Drop)]
 pub struct VpsBase {
     pub opening: VpsOpening,
-    pub ordering: VpsOrdering,
+    pub ordering: SubLayerOrdering,
     pub layer_sets: VpsLayerSets,
     pub vps_timing_info_present_flag: u8,
     /// Coded where vps_timing_info_present_flag is 1.

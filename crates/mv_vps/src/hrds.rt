@@ -2,16 +2,16 @@
 
 ghost use Rattle.std.specs.Prelude.{◌≡◌, ◌≤◌, OnOk};
 ghost use Rattle.mv_syntax.specs.Table.{Valid};
-ghost use Rattle.mv_syntax.specs.Words.{◌under◌, is_set, ◌otherwise◌};
+ghost use Rattle.mv_syntax.specs.Words.{is_set, ◌otherwise◌};
 ghost use Rattle.mv_syntax.specs.Printed.{printed};
 ghost use Rattle.mv_fields.specs.Reading.{ReadsBy, ReadsAs};
-ghost use Rattle.mv_rules.specs.declared.rule.Rule.TheVariants.{VpsLimit};
-ghost use Rattle.mv_common.specs.Hrd.{hrd_parameters, in_force};
+ghost use Rattle.mv_common.specs.Hrd.{in_force};
 ghost use Rattle.mv_vps.specs.Timing.{vps_hrd, vps_hrds};
 
+use crate::shared::{hrd_of, print_hrd};
 use mv_bits::BitReader;
-use mv_common::{Hrd, HrdArgs, HrdFlags, flags_in_force};
-use mv_fields::{Fault, Printer, u8_if, under};
+use mv_common::{Hrd, HrdFlags, flags_in_force};
+use mv_fields::{Fault, Printer, u8_if};
 use mv_rules::Rule;
 use std::alloc::{AllocError, Global};
 use std::marker::Model;
@@ -43,49 +43,6 @@ const NO_FLAGS: HrdFlags = HrdFlags {
     vcl: false,
     sub_pic: false,
 };
-
-// hrd_parameters, where these flags of the first group are in force before it.
-#[tactic(auto, using(mv_fields::proofs::Shared::shared_steps))]
-fn hrd_of(
-    alloc: Global,
-    bits: &mut BitReader,
-    common: bool,
-    subs: u8,
-    before: HrdFlags,
-) -> Result<Hrd, Fault<Rule>>
-    requires { subs ≤ 6 }
-    ensures { ReadsBy (hrd_parameters common subs before under VpsLimit) bits.old bits.new result }
-{
-    let args = HrdArgs {
-        common,
-        subs,
-        nal: before.nal,
-        vcl: before.vcl,
-        sub_pic: before.sub_pic,
-    };
-    under(Rule::VpsLimit, Hrd::read(alloc, bits, &args))
-}
-
-fn print_hrd(
-    out: &mut Printer,
-    v: &Hrd,
-    common: bool,
-    subs: u8,
-    before: HrdFlags,
-) -> Result<(), AllocError>
-    requires subs { subs ≤ 6 }
-    requires valid { Valid (hrd_parameters common subs before under VpsLimit) v.now }
-    ensures { OnOk result (out.new ≡ printed (hrd_parameters common subs before under VpsLimit) v.now out.old) }
-{
-    let args = HrdArgs {
-        common,
-        subs,
-        nal: before.nal,
-        vcl: before.vcl,
-        sub_pic: before.sub_pic,
-    };
-    v.print(out, &args)
-}
 
 // Whether the first group is coded: where the flag is left out it is 1.
 fn has_common(cprms_present_flag: Option<u8>) -> bool

@@ -11,8 +11,8 @@ mod hrds;
 mod laws;
 mod layer_sets;
 mod opening;
-mod ordering;
 mod payload;
+mod shared;
 mod timing;
 mod vps;
 
@@ -21,7 +21,6 @@ pub use hrds::VpsHrd;
 pub use laws::vps_laws;
 pub use layer_sets::VpsLayerSets;
 pub use opening::VpsOpening;
-pub use ordering::{VpsOrdering, VpsSubLayer};
 pub use payload::{read_vps, show_vps, write_vps};
 pub use timing::VpsTiming;
 pub use vps::Vps;

@@ -1,16 +1,14 @@
-ghost use Rattle.std.specs.Prelude.{◌≡◌, ◌≤◌, true, OnOk, IfOk};
+ghost use Rattle.std.specs.Prelude.{◌≡◌, ◌≤◌, OnOk, IfOk};
 ghost use Rattle.mv_syntax.specs.Table.{Valid};
-ghost use Rattle.mv_syntax.specs.Words.{◌under◌};
 ghost use Rattle.mv_syntax.specs.Printed.{printed};
 ghost use Rattle.mv_fields.specs.Reading.{ReadsBy};
-ghost use Rattle.mv_rules.specs.declared.rule.Rule.TheVariants.{VpsLimit};
-ghost use Rattle.mv_common.specs.ProfileTier.{profile_tier_level};
 ghost use Rattle.mv_vps.specs.Opening.{opening};
 
 use crate::fields::{base_flag, u8_except};
+use crate::shared::{print_profile_tier, profile_tier_of};
 use mv_bits::BitReader;
-use mv_common::{ProfileArgs, ProfileTier};
-use mv_fields::{Fault, Printer, u8_of, u16_of, under};
+use mv_common::ProfileTier;
+use mv_fields::{Fault, Printer, u8_of, u16_of};
 use mv_rules::Rule;
 use std::alloc::{AllocError, Global};
 use std::marker::Model;
@@ -45,22 +43,6 @@ impl Model for VpsOpening {
     } };
 }
 
-#[tactic(auto, using(mv_fields::proofs::Shared::shared_steps))]
-fn profile_tier_of(
-    alloc: Global,
-    bits: &mut BitReader,
-    subs: u8,
-) -> Result<ProfileTier, Fault<Rule>>
-    requires { subs ≤ 6 }
-    ensures { ReadsBy (profile_tier_level true subs under VpsLimit) bits.old bits.new result }
-{
-    let args = ProfileArgs {
-        present: true,
-        subs,
-    };
-    under(Rule::VpsLimit, ProfileTier::read(alloc, bits, &args))
-}
-
 #[tactic(auto, unfolding(crate::specs::Opening::opening))]
 pub(crate) fn opening_of(alloc: Global, bits: &mut BitReader) -> Result<VpsOpening, Fault<Rule>>
     ensures fills { ReadsBy opening bits.old bits.new result }
@@ -84,18 +66,6 @@ pub(crate) fn opening_of(alloc: Global, bits: &mut BitReader) -> Result<VpsOpeni
         vps_reserved_0xffff_16bits,
         profile_tier_level,
     })
-}
-
-fn print_profile_tier(out: &mut Printer, v: &ProfileTier, subs: u8) -> Result<(), AllocError>
-    requires subs { subs ≤ 6 }
-    requires valid { Valid (profile_tier_level true subs under VpsLimit) v.now }
-    ensures { OnOk result (out.new ≡ printed (profile_tier_level true subs under VpsLimit) v.now out.old) }
-{
-    let args = ProfileArgs {
-        present: true,
-        subs,
-    };
-    v.print(out, &args)
 }
 
 #[tactic(auto, unfolding(crate::specs::Opening::opening))]

@@ -5,7 +5,7 @@ ghost use Rattle.std.specs.Prelude.{IfOk};
 ghost use Rattle.mv_vps.specs.Vps.{ValidVps};
 
 use super::*;
-use mv_common::{Format, Profile};
+use mv_common::{Format, Profile, SubLayerOrdering};
 use mv_rules::{ReadFault, Rule};
 use mv_vpsext::VpsExt;
 use std::alloc::Global;
@@ -596,7 +596,7 @@ fn opening_numbers(h: &VpsOpening) -> [u32; 7] {
 
 fn base_numbers(b: &VpsBase) -> [u32; 6] {
     [
-        u32::from(b.ordering.vps_sub_layer_ordering_info_present_flag),
+        u32::from(b.ordering.sub_layer_ordering_info_present_flag),
         u32::from(b.layer_sets.vps_max_layer_id),
         b.layer_sets.vps_num_layer_sets_minus1,
         u32::from(b.opening.profile_tier_level.level_idc),
@@ -646,12 +646,12 @@ fn bases(rt: HostRuntime) -> Result<(), Fail> {
 // The numbers of pictures of the sub-layers that have them.
 static ORDERINGS: [(&[u8], [u32; 3]); 2] = [(TWO_VIEW, [1, 0, 0]), (HIGHEST, [4, 2, 1])];
 
-fn has_ordering(ordering: &VpsOrdering, pictures: &[u32; 3]) -> bool {
+fn has_ordering(ordering: &SubLayerOrdering, pictures: &[u32; 3]) -> bool {
     match ordering.sub_layers.as_slice() {
         [only] => {
-            only.vps_max_dec_pic_buffering_minus1 == pictures[0]
-                && only.vps_max_num_reorder_pics == pictures[1]
-                && only.vps_max_latency_increase_plus1 == pictures[2]
+            only.max_dec_pic_buffering_minus1 == pictures[0]
+                && only.max_num_reorder_pics == pictures[1]
+                && only.max_latency_increase_plus1 == pictures[2]
         }
         _ => false,
     }
