@@ -26,4 +26,6 @@ pub use timing::VpsTiming;
 pub use vps::Vps;
 
 #[cfg(test)]
+mod field_tests;
+#[cfg(test)]
 mod tests;
