@@ -76,7 +76,10 @@ fn print_base(out: &mut Printer, v: &VpsBase) -> Result<(), AllocError>
     print_opening(out, &v.opening)?;
     print_ordering(out, &v.ordering, subs)?;
     print_all_layer_sets(out, &v.layer_sets)?;
-    out.flag("vps_timing_info_present_flag", v.vps_timing_info_present_flag)?;
+    out.flag(
+        "vps_timing_info_present_flag",
+        v.vps_timing_info_present_flag,
+    )?;
     print_timing_if(out, v.vps_timing_info_present_flag == 1, &v.timing, subs)?;
     out.flag("vps_extension_flag", v.vps_extension_flag)?;
     Ok(())

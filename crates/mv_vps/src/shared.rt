@@ -12,9 +12,7 @@ ghost use Rattle.mv_common.specs.SubLayerOrdering.{sub_layer_ordering};
 ghost use Rattle.mv_common.specs.Hrd.{hrd_parameters};
 
 use mv_bits::BitReader;
-use mv_common::{
-    Hrd, HrdArgs, HrdFlags, ParameterSet, ProfileArgs, ProfileTier, SubLayerOrdering,
-};
+use mv_common::{Hrd, HrdArgs, HrdFlags, ParameterSet, ProfileArgs, ProfileTier, SubLayerOrdering};
 use mv_fields::{Fault, Printer, under};
 use mv_rules::Rule;
 use std::alloc::{AllocError, Global};
@@ -35,7 +33,11 @@ pub(crate) fn profile_tier_of(
     under(Rule::VpsLimit, ProfileTier::read(alloc, bits, &args))
 }
 
-pub(crate) fn print_profile_tier(out: &mut Printer, v: &ProfileTier, subs: u8) -> Result<(), AllocError>
+pub(crate) fn print_profile_tier(
+    out: &mut Printer,
+    v: &ProfileTier,
+    subs: u8,
+) -> Result<(), AllocError>
     requires subs { subs ≤ 6 }
     requires valid { Valid (profile_tier_level true subs under VpsLimit) v.now }
     ensures { OnOk result (out.new ≡ printed (profile_tier_level true subs under VpsLimit) v.now out.old) }

@@ -873,7 +873,10 @@ static MAX_TIDS: [(u8, u8, u8); 7] = [
 fn max_tids(rt: HostRuntime) -> Result<(), Fail> {
     let vps = read_fields(rt.alloc(), DIAMOND)?;
     for (reference, layer, expected) in &MAX_TIDS {
-        assert_eq!(rt; vps.max_tid_il_ref_pics_plus1(*reference, *layer), *expected);
+        assert_eq!(rt;
+            vps.max_tid_il_ref_pics_plus1(*reference, *layer),
+            *expected
+        );
     }
     Ok(())
 }

@@ -82,9 +82,16 @@ fn print_timing(out: &mut Printer, v: &VpsTiming, subs: u8) -> Result<(), AllocE
 {
     out.u32("vps_num_units_in_tick", 32, v.vps_num_units_in_tick)?;
     out.u32("vps_time_scale", 32, v.vps_time_scale)?;
-    out.flag("vps_poc_proportional_to_timing_flag", v.vps_poc_proportional_to_timing_flag)?;
+    out.flag(
+        "vps_poc_proportional_to_timing_flag",
+        v.vps_poc_proportional_to_timing_flag,
+    )?;
     let proportional = v.vps_poc_proportional_to_timing_flag == 1;
-    out.ue_if(proportional, "vps_num_ticks_poc_diff_one_minus1", v.vps_num_ticks_poc_diff_one_minus1)?;
+    out.ue_if(
+        proportional,
+        "vps_num_ticks_poc_diff_one_minus1",
+        v.vps_num_ticks_poc_diff_one_minus1,
+    )?;
     out.ue("vps_num_hrd_parameters", v.vps_num_hrd_parameters)?;
     print_vps_hrds(out, &v.hrds, subs, v.vps_num_hrd_parameters)?;
     Ok(())
