@@ -22,15 +22,15 @@ sub_layers_of vps layer =
     of_layer vps (sub_layers_at vps.coded.0.base.opening.vps_max_sub_layers_minus1 coded) layer
 
 -- vps_rep_format_idx: where it isn't coded, 0 for layer 0, and else the index of the layer or the last format.
-abbrev pub rep_format_of : WholeVps → ℕ → Option ℕ
-rep_format_of vps layer =
+abbrev pub rep_format_index : WholeVps → ℕ → Option ℕ
+rep_format_index vps layer =
     let last : ℕ = in_extension (λ ext. ext.formats.vps_num_rep_formats_minus1) 0 vps in
     let coded : Option (List ℕ) = in_extension (λ ext. ext.formats.vps_rep_format_idx) None vps in
     of_layer vps (rep_format_at last coded) layer
 
 -- poc_lsb_not_present_flag: 0 where it isn't coded.
-abbrev pub poc_lsb_not_present_of : WholeVps → ℕ → Option ℕ
-poc_lsb_not_present_of vps layer =
+abbrev pub poc_lsb_not_present : WholeVps → ℕ → Option ℕ
+poc_lsb_not_present vps layer =
     let coded : List (Option ℕ) = in_extension (λ ext. ext.pictures.poc_lsb_not_present_flag) [] vps in
     of_layer vps (poc_lsb_not_present_at coded) layer
 
@@ -46,7 +46,7 @@ abbrev pub max_tid_at : List (List (Option ℕ)) → ℕ → ℕ → ℕ
 max_tid_at coded i j = if nat_lt i j then get_or (get_or coded i []) (j - (i + 1)) None otherwise 7 else 7
 
 -- The same by the nuh_layer_id of the reference and of the layer.
-abbrev pub max_tid_of : WholeVps → ℕ → ℕ → ℕ
-max_tid_of vps reference layer =
+abbrev pub max_tid : WholeVps → ℕ → ℕ → ℕ
+max_tid vps reference layer =
     let coded : List (List (Option ℕ)) = in_extension (λ ext. ext.dependencies.max_tid_il_ref_pics_plus1 otherwise []) [] vps in
     of_layer vps (λ j. of_layer vps (λ i. max_tid_at coded i j) reference otherwise 7) layer otherwise 7

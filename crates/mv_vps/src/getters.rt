@@ -8,7 +8,7 @@ ghost use Rattle.mv_layers.specs.LayerInfos.{is_layer, layer_index};
 ghost use Rattle.mv_layers.specs.PerLayer.{sub_layers_at, rep_format_at, poc_lsb_not_present_at};
 ghost use Rattle.mv_vps.specs.Vps.{ValidVps};
 ghost use Rattle.mv_vps.specs.Formats.{rep_formats_of, format_at};
-ghost use Rattle.mv_vps.specs.Getters.{sub_layers_of, rep_format_of, poc_lsb_not_present_of, default_ref_layers_active, max_one_active_ref_layer, max_tid_at, max_tid_of};
+ghost use Rattle.mv_vps.specs.Getters.{sub_layers_of, rep_format_index, poc_lsb_not_present, default_ref_layers_active, max_one_active_ref_layer, max_tid_at, max_tid};
 
 use crate::formats::format_at;
 use crate::vps::Vps;
@@ -115,7 +115,7 @@ impl Vps {
     /// no such layer.
     pub fn rep_format_index(&self, layer: u8) -> Option<u8>
         requires { ValidVps self.now }
-        ensures { result ≡ rep_format_of self.now layer }
+        ensures { result ≡ rep_format_index self.now layer }
     {
         let i = self.layer_index(layer)?;
         match &self.extension {
@@ -131,7 +131,7 @@ impl Vps {
     /// parameter set has no such layer.
     pub fn poc_lsb_not_present_flag(&self, layer: u8) -> Option<u8>
         requires { ValidVps self.now }
-        ensures { result ≡ poc_lsb_not_present_of self.now layer }
+        ensures { result ≡ poc_lsb_not_present self.now layer }
     {
         let i = self.layer_index(layer)?;
         match &self.extension {
@@ -167,7 +167,7 @@ impl Vps {
     /// (F.7.4.3.1.1): 7 where it isn't coded.
     pub fn max_tid_il_ref_pics_plus1(&self, reference: u8, layer: u8) -> u8
         requires { ValidVps self.now }
-        ensures { result ≡ max_tid_of self.now reference layer }
+        ensures { result ≡ max_tid self.now reference layer }
     {
         let (Some(i), Some(j)) = (self.layer_index(reference), self.layer_index(layer)) else {
             return 7;
