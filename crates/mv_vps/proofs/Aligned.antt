@@ -1,5 +1,5 @@
 -- The one bits before an extension, as a call takes and writes them.
-use Rattle.std.proofs.Common.{◌≡◌, ℕ, ◌-◌, ◌*◌, ◌<◌, ◌^◌, ◌%◌, ◌≢◌, Bool, true, false, List, [], ◌++◌, length, Option, Some, None, Ok, Err, refl, sym, ap, ◌∙◌, arith, append-nil, lit<}
+use Rattle.std.proofs.Common.{◌≡◌, ℕ, ◌-◌, ◌*◌, ◌<◌, ◌^◌, ◌%◌, ◌≢◌, Bool, true, false, List, [], ◌++◌, length, Option, Some, None, ◌⊎◌, inl, inr, Ok, Err, refl, sym, ap, ◌∙◌, arith, append-nil, lit<}
 use Rattle.std.proofs.Math.Pow.{pow-sub-lt}
 use Rattle.std.proofs.lemmas.Nat.{one_shl}
 use Rattle.mv_syntax.specs.Bits.{Fault, short, take_bits, align_bits, to_byte_end, u_bits}
@@ -8,6 +8,9 @@ use Rattle.mv_syntax.specs.Table.{Valid, read, put, behind}
 use Rattle.mv_syntax.specs.Words.{is_set}
 use Rattle.mv_syntax.specs.Answers.{FailsAs}
 use Rattle.mv_syntax.proofs.AlignLaws.{behind_u, behind_other, behind_short, align_ones}
+use Rattle.mv_syntax.specs.Printed.{Output, bits, lines, printed}
+use Rattle.mv_syntax.proofs.PrintedLaws.{printed-bits, printed-text}
+use Rattle.mv_fields.specs.Output.{IsText, aligned}
 use Rattle.mv_vps.specs.Base.{VpsBaseValue, base, aligned_base}
 
 -- a flag is 1, or another number
@@ -61,7 +64,7 @@ unfolding aligned_base
 base_fails b None h = tt
 base_fails b (Some fault) h = rw h refl
 
--- ---- writing
+-- ---- printing
 none_before : (n : ℕ) → n - 0 ≡ n
 none_before n = omega arith
 
@@ -69,13 +72,17 @@ pub base_valid : (v : VpsBaseValue) → Valid aligned_base v → Valid base v
 unfolding aligned_base
 base_valid v h = h
 
-pub plain_put : (v : VpsBaseValue) (old new : List Bool) → old ≡ [] → is_set v.vps_extension_flag ≡ false → new ≡ put base v old → new ≡ put aligned_base v old
+pub plain_printed : (v : VpsBaseValue) (old new : Output) → (old ≡ bits []) ⊎ IsText old → is_set v.vps_extension_flag ≡ false → new ≡ printed base v old
+    → new ≡ printed aligned_base v old
 unfolding aligned_base
-plain_put v old new none unset e = e ∙ rw unset (sym (append-nil (put base v old)))
+plain_printed v old new (inl none) unset e = e ∙ rw (none, printed-bits base [] v [], unset) (ap bits (sym (append-nil (put base v []))))
+plain_printed v (bits b) new (inr text) unset e = absurd text
+plain_printed v (lines text around) new (inr none) unset e = e
 
-pub ones_put : (v : VpsBaseValue) (old so_far new : List Bool) → old ≡ [] → is_set v.vps_extension_flag ≡ true → so_far ≡ put base v old
-    → new ≡ so_far ++ align_bits true (length so_far) → new ≡ put aligned_base v old
+pub ones_printed : (v : VpsBaseValue) (old so_far new : Output) → (old ≡ bits []) ⊎ IsText old → is_set v.vps_extension_flag ≡ true → so_far ≡ printed base v old
+    → new ≡ aligned true so_far → new ≡ printed aligned_base v old
 unfolding aligned_base
-ones_put v old so_far new none flag wrote e =
-    let at : length (put base v old) - length old ≡ length so_far = rw (none, none_before (length (put base v []))) (ap length (sym (wrote ∙ ap (put base v) none))) in
-    rw (flag, at) (e ∙ ap (λ b. b ++ align_bits true (length so_far)) wrote)
+ones_printed v old so_far new (inl none) flag before e =
+    e ∙ rw (before, none, printed-bits base [] v [], flag, none_before (length (put base v []))) refl
+ones_printed v (bits b) so_far new (inr text) flag before e = absurd text
+ones_printed v (lines text around) so_far new (inr none) flag before e = e ∙ rw (before, none, printed-text base v text) refl

@@ -3,10 +3,12 @@ use Rattle.std.proofs.Common.{◌≡◌, ℕ, ◌+◌, ◌<◌, ◌≤◌, Bool,
 use Rattle.std.proofs.lemmas.List.Sums.{fold_push, fold_more}
 use Rattle.mv_syntax.specs.Bits.{Fault}
 use Rattle.mv_syntax.specs.Bits as bits
-use Rattle.mv_syntax.specs.Table.{Valid, read, put}
+use Rattle.mv_syntax.specs.Table.{Valid, read}
+use Rattle.mv_syntax.specs.Printed.{Output, depth, opened, closed, printed}
 use Rattle.mv_syntax.specs.Loops.{items_after, rest_of_items_after}
 use Rattle.mv_syntax.specs.Answers.{FailsAs}
-use Rattle.mv_syntax.proofs.LoopLaws.{items_after_begin, items_after_turn, items_after_done, put_items_after_begin, put_items_after_turn, put_items_after_done, items_after-length, items_after-valid}
+use Rattle.mv_syntax.proofs.LoopLaws.{items_after_begin, items_after_turn, items_after_done, items_after-length, items_after-valid}
+use Rattle.mv_syntax.proofs.PrintingLoops.{print_items_after_begin, print_items_after_step, print_items_after_done}
 use Rattle.mv_common.specs.declared.hrd_common.HrdFlags.{HrdFlags}
 use Rattle.mv_common.specs.Hrd.{in_force}
 use Rattle.mv_vps.specs.Timing.{VpsHrdValue, vps_hrd, no_flags, flags_behind, next_hrd, vps_hrds}
@@ -44,7 +46,7 @@ hrds_fails subs i n earlier flags b (Some fault) answer h same so_far e =
 
 pub ruleset hrd_steps = (hrds_begin, items_after_done)
 
--- ---- writing
+-- ---- printing
 pub hrds_length : (subs n : ℕ) (all : List VpsHrdValue) → Valid (vps_hrds subs n) all → length all ≡ n
 unfolding vps_hrds
 hrds_length subs n all h = items_after-length (next_hrd subs) 0 n all h
@@ -56,16 +58,15 @@ hrd_valid subs n i all flags x d h below same is =
     let valid : Valid (vps_hrd subs (flags_behind (take i all)) i) (get_or all i d) = items_after-valid (next_hrd subs) 0 n all i i d h below (omega arith) in
     subst (λ v. Valid (vps_hrd subs flags i) v) (sym is) (subst (λ f. Valid (vps_hrd subs f i) (get_or all i d)) (sym same) valid)
 
-pub put_hrds_turn : (subs n i : ℕ) (all : List VpsHrdValue) (flags : HrdFlags) (x d : VpsHrdValue) (old so_far new : List Bool) → i < length all
-    → flags ≡ flags_behind (take i all) → x ≡ get_or all i d → so_far ≡ put (items_after 0 n (next_hrd subs)) (take i all) old
-    → new ≡ put (vps_hrd subs flags i) x so_far → new ≡ put (items_after 0 n (next_hrd subs)) (take (i + 1) all) old
+pub print_hrds_turn :
+    (subs n i j : ℕ) (all : List VpsHrdValue) (flags : HrdFlags) (x d : VpsHrdValue) (out : Output) {at_turn inside behind done : Output} {outer : ℕ}
+    → at_turn ≡ printed (items_after 0 n (next_hrd subs)) (take i all) out → i < length all → j ≡ i → flags ≡ flags_behind (take i all) → x ≡ get_or all i d
+    → (outer ≡ depth at_turn) × (inside ≡ opened j at_turn) → behind ≡ printed (vps_hrd subs flags i) x inside → done ≡ closed outer behind
+    → done ≡ printed (items_after 0 n (next_hrd subs)) (take (i + 1) all) out
 unfolding next_hrd
-put_hrds_turn subs n i all flags x d old so_far new below same is before now =
-    now
-    ∙ ap (λ f. put (vps_hrd subs f i) x so_far) same
-    ∙ ap (λ v. put (vps_hrd subs (flags_behind (take i all)) i) v so_far) is
-    ∙ ap (put (vps_hrd subs (flags_behind (take i all)) i) (get_or all i d)) before
-    ∙ sym (put_items_after_turn (next_hrd subs) 0 n all i i d old below (omega arith))
+print_hrds_turn subs n i j all flags x d out {inside = inside} so_far below index same is start body end =
+    print_items_after_step (next_hrd subs) 0 n [] all i i d out so_far below (omega arith) (rw index at start)
+    (body ∙ ap (λ f. printed (vps_hrd subs f i) x inside) same ∙ ap (λ v. printed (vps_hrd subs (flags_behind (take i all)) i) v inside) is) end
 
 pub flags_more : (i : ℕ) (all : List VpsHrdValue) (flags next : HrdFlags) (x d : VpsHrdValue) → i < length all → flags ≡ flags_behind (take i all)
     → x ≡ get_or all i d → next ≡ in_force x.hrd_parameters.common flags → next ≡ flags_behind (take (i + 1) all)
@@ -73,9 +74,9 @@ flags_more i all flags next x d below so_far is here =
     here ∙ ap (λ (v : VpsHrdValue). in_force v.hrd_parameters.common flags) is ∙ ap (in_force (get_or all i d).hrd_parameters.common) so_far
     ∙ sym (fold_more (λ f (h : VpsHrdValue). in_force h.hrd_parameters.common f) no_flags all i d below)
 
-pub hrds_put : (subs n i : ℕ) (all : List VpsHrdValue) (old new : List Bool) → length all ≤ i → new ≡ put (items_after 0 n (next_hrd subs)) (take i all) old
-    → new ≡ put (vps_hrds subs n) all old
+pub hrds_printed : (subs n i : ℕ) (all : List VpsHrdValue) (out new : Output) → length all ≤ i → new ≡ printed (items_after 0 n (next_hrd subs)) (take i all) out
+    → new ≡ printed (vps_hrds subs n) all out
 unfolding vps_hrds
-hrds_put subs n i all old new h e = e ∙ put_items_after_done (next_hrd subs) 0 n all i old h
+hrds_printed subs n i all out new h e = e ∙ print_items_after_done (next_hrd subs) 0 n [] all i out h
 
-pub ruleset put_hrd_steps = (put_items_after_begin, hrd_valid)
+pub ruleset print_hrd_steps = (print_items_after_begin, hrd_valid)

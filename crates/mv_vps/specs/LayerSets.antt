@@ -1,5 +1,5 @@
--- The layer sets of a video parameter set (7.3.2.1). A nuh_layer_id of 63 and over 1,024 layer sets break the limit rule, 26
--- (this project's profile).
+-- The layer sets of a video parameter set (7.3.2.1). A nuh_layer_id of 63 and over 1,024 layer sets break the limit rule (this
+-- project's profile).
 use Rattle.std.specs.Prelude.{ℕ, List, refl}
 use Rattle.mv_syntax.specs.Table.{Table, ◌>>=◌, u, ue, named, shaped}
 use Rattle.mv_syntax.specs.Words.{◌▸◌, ◌!◌∶◌, over, is}

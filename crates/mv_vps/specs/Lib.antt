@@ -1,8 +1,7 @@
-pub mod Faults
-pub mod Head
-pub mod Ordering
+pub mod Opening
 pub mod LayerSets
 pub mod Timing
 pub mod Base
 pub mod Vps
 pub mod Formats
+pub mod Getters

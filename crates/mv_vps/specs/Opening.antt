@@ -1,12 +1,12 @@
--- The first fields of a video parameter set (7.3.2.1, F.7.3.2.1), up to profile_tier_level. A base layer that isn't in the stream
--- or isn't available is refused (ExternalBase, 11); 64 layers and 8 sub-layers break the limit rule, 26 (this project's profile).
+-- The first fields of a video parameter set (7.3.2.1), up to profile_tier_level. A base layer that isn't in the stream or isn't
+-- available is refused (ExternalBase); 64 layers and 8 sub-layers break the limit rule (this project's profile).
 use Rattle.std.specs.Prelude.{ℕ, true, refl}
 use Rattle.mv_syntax.specs.Table.{Table, ◌>>=◌, u, named, shaped}
 use Rattle.mv_syntax.specs.Words.{◌under◌, ◌▸◌, ◌>>◌, ◌!◌∶◌, is}
 use Rattle.mv_rules.specs.declared.rule.Rule.TheVariants.{ExternalBase, VpsLimit}
 use Rattle.mv_common.specs.ProfileTier.{ProfileTierValue, profile_tier_level}
 
-pub record VpsHeadValue : Type 0 where
+pub record VpsOpeningValue : Type 0 where
   pub vps_video_parameter_set_id : ℕ
   pub vps_base_layer_internal_flag : ℕ
   pub vps_base_layer_available_flag : ℕ
@@ -16,8 +16,8 @@ pub record VpsHeadValue : Type 0 where
   pub vps_reserved_0xffff_16bits : ℕ
   pub profile_tier_level : ProfileTierValue
 
-unfoldable pub head : Table VpsHeadValue
-head = shaped
+unfoldable pub opening : Table VpsOpeningValue
+opening = shaped
     (λ (vps_video_parameter_set_id, (vps_base_layer_internal_flag, (vps_base_layer_available_flag, (vps_max_layers_minus1, (vps_max_sub_layers_minus1, (vps_temporal_id_nesting_flag, (vps_reserved_0xffff_16bits, profile_tier_level))))))). record {
       vps_video_parameter_set_id = vps_video_parameter_set_id;
       vps_base_layer_internal_flag = vps_base_layer_internal_flag;

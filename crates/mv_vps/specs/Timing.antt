@@ -1,4 +1,4 @@
--- The timing of a video parameter set and its hrd_parameters (7.3.2.1). Over 1,024 hrd_parameters break the limit rule, 26 (this
+-- The timing of a video parameter set and its hrd_parameters (7.3.2.1). Over 1,024 hrd_parameters break the limit rule (this
 -- project's profile).
 use Rattle.std.specs.Prelude.{ℕ, false, List, Option, refl}
 use Rattle.std.specs.List.{fold}

@@ -19,12 +19,12 @@ pub record VpsValue : Type 0 where
 -- There is an extension, and it has a VUI, which is left unread.
 abbrev pub has_vui : Option VpsExtValue → Bool
 has_vui None = false
-has_vui (Some ext) = is_set ext.types.vps_vui_present_flag
+has_vui (Some ext) = is_set ext.ending.vps_vui_present_flag
 
 -- vps_extension2_flag is coded behind an extension that has no VUI.
 abbrev pub has_extension2_flag : Option VpsExtValue → Bool
 has_extension2_flag None = false
-has_extension2_flag (Some ext) = not (is_set ext.types.vps_vui_present_flag)
+has_extension2_flag (Some ext) = not (is_set ext.ending.vps_vui_present_flag)
 
 -- The fields up to the tail.
 unfoldable pub vps_fields : Table VpsValue
@@ -40,15 +40,15 @@ vps_fields = shaped
     ▸ v.vps_extension2_flag)
     (λ _. refl)
     do
-      first ← aligned_base
-      extension ← when (is_set first.vps_extension_flag) (vps_extension (args_of first))
+      vps_base ← aligned_base
+      extension ← when (is_set vps_base.vps_extension_flag) (vps_extension (args_of vps_base))
       named "vps_extension2_flag" (when (has_extension2_flag extension) (u 1))
 
 -- A tail stands behind the fields where there is a VUI or vps_extension2_flag is 1.
 abbrev pub has_tail : VpsValue → Bool
 has_tail v = has_vui v.extension || coded_set v.vps_extension2_flag
 
--- The payload: at most 65,536 bytes, or else the limit rule, 26 (this project's profile); the fields, the tail (the VUI, or
+-- The payload: at most 65,536 bytes, or else the limit rule (this project's profile); the fields, the tail (the VUI, or
 -- vps_extension_data_flag) and the trailing bits.
 abbrev pub vps : Payload VpsValue
 vps = record { fields = vps_fields; size_rule = VpsLimit; has_tail = has_tail }

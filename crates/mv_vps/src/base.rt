@@ -1,25 +1,28 @@
-ghost use Rattle.std.specs.Prelude.{◌≡◌, ◌≤◌, ◌<◌, ◌^◌, [], true, length, Ok, Err, OnOk, MatchResult};
+ghost use Rattle.std.specs.Prelude.{◌≡◌, ◌≤◌, ◌<◌, ◌^◌, [], true, length, Ok, Err, OnOk, MatchResult, ◌⊎◌};
 ghost use Rattle.mv_syntax.specs.Bits.{align_bits, short};
 ghost use Rattle.mv_syntax.specs.Cursor.{place};
-ghost use Rattle.mv_syntax.specs.Table.{Valid, , behind};
-ghost use Rattle.mv_syntax.specs.Printed.{printed};
-ghost use Rattle.mv_fields.specs.Reading.{ReadsBy, ReadsAs};
+ghost use Rattle.mv_syntax.specs.Table.{Valid, behind};
+ghost use Rattle.mv_syntax.specs.Printed.{bits, printed};
+ghost use Rattle.mv_fields.specs.Output.{IsText};
+ghost use Rattle.mv_fields.specs.Reading.{ReadsBy};
 ghost use Rattle.mv_vps.specs.Base.{base, aligned_base};
 
-use crate::head::{VpsHead, head_of, print_head};
 use crate::layer_sets::{VpsLayerSets, all_layer_sets_of, print_all_layer_sets};
-use crate::ordering::{VpsOrdering, ordering_of, print_ordering};
+use crate::opening::{VpsOpening, opening_of, print_opening};
+use crate::shared::{ordering_of, print_ordering};
 use crate::timing::{VpsTiming, print_timing_if, timing_if};
-use mv_bits::{BitReader, BitWriter, NoBits};
-use mv_fields::{print_u8, u8_of};
+use mv_bits::{BitReader, NoBits};
+use mv_common::SubLayerOrdering;
+use mv_fields::{Fault, Printer, u8_of};
+use mv_rules::Rule;
 use std::alloc::{AllocError, Global};
 use std::marker::Model;
 
 /// The fields that every video parameter set has, up to vps_extension_flag.
 #[derive(Debug, Drop)]
 pub struct VpsBase {
-    pub head: VpsHead,
-    pub ordering: VpsOrdering,
+    pub opening: VpsOpening,
+    pub ordering: SubLayerOrdering,
     pub layer_sets: VpsLayerSets,
     pub vps_timing_info_present_flag: u8,
     /// Coded where vps_timing_info_present_flag is 1.
@@ -33,7 +36,7 @@ impl Model for VpsBase {
     ghost Value = { VpsBaseValue };
 
     ghost view = { λ b. record {
-      head = b.head;
+      opening = b.opening;
       ordering = b.ordering;
       layer_sets = b.layer_sets;
       vps_timing_info_present_flag = b.vps_timing_info_present_flag;
@@ -46,15 +49,15 @@ impl Model for VpsBase {
 fn base_of(alloc: Global, bits: &mut BitReader) -> Result<VpsBase, Fault<Rule>>
     ensures { ReadsBy base bits.old bits.new result }
 {
-    let head = head_of(alloc, bits)?;
-    let subs = head.vps_max_sub_layers_minus1;
+    let opening = opening_of(alloc, bits)?;
+    let subs = opening.vps_max_sub_layers_minus1;
     let ordering = ordering_of(alloc, bits, subs)?;
     let layer_sets = all_layer_sets_of(alloc, bits)?;
     let vps_timing_info_present_flag = u8_of(bits, 1)?;
     let timing = timing_if(alloc, bits, vps_timing_info_present_flag == 1, subs)?;
     let vps_extension_flag = u8_of(bits, 1)?;
     Ok(VpsBase {
-        head,
+        opening,
         ordering,
         layer_sets,
         vps_timing_info_present_flag,
@@ -65,17 +68,21 @@ fn base_of(alloc: Global, bits: &mut BitReader) -> Result<VpsBase, Fault<Rule>>
 
 #[tactic(auto, unfolding(crate::specs::Base::base))]
 fn print_base(out: &mut Printer, v: &VpsBase) -> Result<(), AllocError>
-    requires few { v.now.head.vps_max_sub_layers_minus1 ≤ 6 }
+    requires few { v.now.opening.vps_max_sub_layers_minus1 ≤ 6 }
     requires valid { Valid base v.now }
     ensures { OnOk result (out.new ≡ printed base v.now out.old) }
 {
-    let subs = v.head.vps_max_sub_layers_minus1;
-    print_head(out, &v.head)?;
+    let subs = v.opening.vps_max_sub_layers_minus1;
+    print_opening(out, &v.opening)?;
     print_ordering(out, &v.ordering, subs)?;
     print_all_layer_sets(out, &v.layer_sets)?;
-    out.flag("vps_timing_info_present_flag", v.vps_timing_info_present_flag)?;
+    out.flag(
+        "vps_timing_info_present_flag",
+        v.vps_timing_info_present_flag,
+    )?;
     print_timing_if(out, v.vps_timing_info_present_flag == 1, &v.timing, subs)?;
-    out.flag("vps_extension_flag", v.vps_extension_flag)
+    out.flag("vps_extension_flag", v.vps_extension_flag)?;
+    Ok(())
 }
 
 // Takes one bits up to the end of the byte.
@@ -113,10 +120,10 @@ pub(crate) fn aligned_base_of(alloc: Global, bits: &mut BitReader) -> Result<Vps
     }
 }
 
-/// Writes the same at the head of a payload.
+/// Prints the same at the head of a payload.
 pub(crate) fn print_aligned_base(out: &mut Printer, v: &VpsBase) -> Result<(), AllocError>
-    requires at_head { out.old ≡ [] }
-    requires few { v.now.head.vps_max_sub_layers_minus1 ≤ 6 }
+    requires at_head { (out.old ≡ bits []) ⊎ IsText out.old }
+    requires few { v.now.opening.vps_max_sub_layers_minus1 ≤ 6 }
     requires valid { Valid aligned_base v.now }
     ensures { OnOk result (out.new ≡ printed aligned_base v.now out.old) }
 {

@@ -4,7 +4,7 @@ ghost use Rattle.std.specs.Prelude.{◌≡◌, ◌∷◌, [], OnOk, IfOk};
 ghost use Rattle.mv_syntax.specs.Table.{when, Valid};
 ghost use Rattle.mv_syntax.specs.Printed.{printed};
 ghost use Rattle.mv_syntax.specs.Words.{is_set};
-ghost use Rattle.mv_fields.specs.Reading.{ReadsBy, ReadsAs};
+ghost use Rattle.mv_fields.specs.Reading.{ReadsAs};
 ghost use Rattle.mv_vpsext.specs.Args.{AreVpsArgs};
 ghost use Rattle.mv_vpsext.specs.VpsExt.{vps_extension};
 ghost use Rattle.mv_vpsext.specs.Derived.{derived};
@@ -13,7 +13,9 @@ ghost use Rattle.mv_vps.specs.Vps.{has_vui, has_extension2_flag, layer_0_alone, 
 
 use crate::base::VpsBase;
 use mv_bits::BitReader;
+use mv_fields::{Fault, Printer};
 use mv_layers::{Derived, LayerInfo, Ols};
+use mv_rules::Rule;
 use mv_vpsext::{VpsArgs, VpsExt};
 use std::alloc::{AllocError, Global};
 
@@ -22,8 +24,8 @@ fn args_of(base: &VpsBase) -> VpsArgs<'_>
     ensures { result ≡ args_of base.now }
 {
     VpsArgs {
-        vps_max_layers_minus1: base.head.vps_max_layers_minus1,
-        vps_max_sub_layers_minus1: base.head.vps_max_sub_layers_minus1,
+        vps_max_layers_minus1: base.opening.vps_max_layers_minus1,
+        vps_max_sub_layers_minus1: base.opening.vps_max_sub_layers_minus1,
         vps_max_layer_id: base.layer_sets.vps_max_layer_id,
         vps_num_layer_sets_minus1: base.layer_sets.vps_num_layer_sets_minus1,
         layer_id_included_flag: &base.layer_sets.layer_id_included_flag,
@@ -63,22 +65,6 @@ fn layer_0_alone(alloc: Global) -> Result<Derived, AllocError>
     Ok(Derived { layers, sets })
 }
 
-// The extension, and what it describes.
-fn ext_of(
-    alloc: Global,
-    bits: &mut BitReader,
-    args: &VpsArgs,
-) -> Result<(VpsExt, Derived), Fault<Rule>>
-    requires { AreVpsArgs args.now }
-    ensures reads { ReadsAs (λ v. v.0) (vps_extension args.now) bits.old bits.new result }
-    ensures derived { IfOk result (λ v. v.1 ≡ derived args.now v.0) }
-{
-    match VpsExt::read(alloc, bits, args) {
-        Ok(value) => Ok(value),
-        Err(fault) => Err(Fault::from(fault)),
-    }
-}
-
 /// The extension behind these fields, where vps_extension_flag is 1, and what the two describe.
 pub(crate) fn extension_of(
     alloc: Global,
@@ -94,12 +80,11 @@ pub(crate) fn extension_of(
         return Ok((None, derived));
     }
     let args = args_of(base);
-    let (ext, derived) = ext_of(alloc, bits, &args)?;
+    let (ext, derived) = VpsExt::part(alloc, bits, &args)?;
     Ok((Some(ext), derived))
 }
 
-/// Writes the extension behind these fields, where there is one.
-#[tactic(auto, using(mv_vpsext::proofs::Sharing::shared_put_steps))]
+/// Prints the extension behind these fields, where there is one.
 pub(crate) fn print_extension(
     out: &mut Printer,
     base: &VpsBase,
@@ -112,7 +97,7 @@ pub(crate) fn print_extension(
     match extension {
         Some(ext) => {
             let args = args_of(base);
-            ext.write(out, &args)
+            ext.print(out, &args)
         }
         None => Ok(()),
     }
@@ -123,7 +108,7 @@ pub(crate) fn has_vui(extension: &Option<VpsExt>) -> bool
     ensures { result ≡ has_vui extension.now }
 {
     match extension {
-        Some(ext) => ext.types.vps_vui_present_flag == 1,
+        Some(ext) => ext.ending.vps_vui_present_flag == 1,
         None => false,
     }
 }
@@ -133,7 +118,7 @@ pub(crate) fn has_extension2_flag(extension: &Option<VpsExt>) -> bool
     ensures { result ≡ has_extension2_flag extension.now }
 {
     match extension {
-        Some(ext) => ext.types.vps_vui_present_flag != 1,
+        Some(ext) => ext.ending.vps_vui_present_flag != 1,
         None => false,
     }
 }

@@ -1,16 +1,18 @@
 //! The hrd_parameters of layer sets (7.3.2.1, E.2.2). One without a first group of its own has that of the one before.
 
 ghost use Rattle.std.specs.Prelude.{◌≡◌, ◌≤◌, OnOk};
-ghost use Rattle.mv_syntax.specs.Table.{by_rule, Valid};
+ghost use Rattle.mv_syntax.specs.Table.{Valid};
+ghost use Rattle.mv_syntax.specs.Words.{is_set, ◌otherwise◌};
 ghost use Rattle.mv_syntax.specs.Printed.{printed};
 ghost use Rattle.mv_fields.specs.Reading.{ReadsBy, ReadsAs};
-ghost use Rattle.mv_syntax.specs.Words.{is_set, ◌otherwise◌};
-ghost use Rattle.mv_common.specs.Hrd.{hrd_parameters, in_force};
+ghost use Rattle.mv_common.specs.Hrd.{in_force};
 ghost use Rattle.mv_vps.specs.Timing.{vps_hrd, vps_hrds};
 
+use crate::shared::{hrd_of, print_hrd};
 use mv_bits::BitReader;
-use mv_common::{Hrd, HrdArgs, HrdFlags, flags_in_force};
-use mv_fields::{print_u8_if, print_ue, u8_if};
+use mv_common::{Hrd, HrdFlags, flags_in_force};
+use mv_fields::{Fault, Printer, u8_if};
+use mv_rules::Rule;
 use std::alloc::{AllocError, Global};
 use std::marker::Model;
 
@@ -41,52 +43,6 @@ const NO_FLAGS: HrdFlags = HrdFlags {
     vcl: false,
     sub_pic: false,
 };
-
-// hrd_parameters, where these flags of the first group are in force before it.
-fn hrd_of(
-    alloc: Global,
-    bits: &mut BitReader,
-    common: bool,
-    subs: u8,
-    before: HrdFlags,
-) -> Result<Hrd, Fault<Rule>>
-    requires { subs ≤ 6 }
-    ensures { ReadsBy (by_rule 26 (hrd_parameters common subs before)) bits.old bits.new result }
-{
-    let args = HrdArgs {
-        common,
-        subs,
-        nal: before.nal,
-        vcl: before.vcl,
-        sub_pic: before.sub_pic,
-    };
-    match Hrd::read(alloc, bits, &args) {
-        Ok(value) => Ok(value),
-        Err(fault) => Err(Fault::from(fault)),
-    }
-}
-
-#[tactic(auto, using(mv_vpsext::proofs::Sharing::shared_put_steps))]
-fn print_hrd(
-    out: &mut Printer,
-    v: &Hrd,
-    common: bool,
-    subs: u8,
-    before: HrdFlags,
-) -> Result<(), AllocError>
-    requires subs { subs ≤ 6 }
-    requires valid { Valid (by_rule 26 (hrd_parameters common subs before)) v.now }
-    ensures { OnOk result (out.new ≡ printed (by_rule 26 (hrd_parameters common subs before)) v.now out.old) }
-{
-    let args = HrdArgs {
-        common,
-        subs,
-        nal: before.nal,
-        vcl: before.vcl,
-        sub_pic: before.sub_pic,
-    };
-    v.write(out, &args)
-}
 
 // Whether the first group is coded: where the flag is left out it is 1.
 fn has_common(cprms_present_flag: Option<u8>) -> bool
@@ -158,7 +114,8 @@ fn print_vps_hrd(
     out.ue("hrd_layer_set_idx", v.hrd_layer_set_idx)?;
     out.flag_if(i > 0, "cprms_present_flag", v.cprms_present_flag)?;
     let common = has_common(v.cprms_present_flag);
-    print_hrd(out, &v.hrd_parameters, common, subs, before)
+    print_hrd(out, &v.hrd_parameters, common, subs, before)?;
+    Ok(())
 }
 
 #[tactic(auto, using(crate::proofs::HrdSteps::print_hrd_steps))]

@@ -1,14 +1,15 @@
-ghost use Rattle.std.specs.Prelude.{◌≡◌, ◌≤◌, OnOk, IfOk};
+ghost use Rattle.std.specs.Prelude.{◌≡◌, ◌≤◌, OnOk};
 ghost use Rattle.mv_syntax.specs.Table.{Valid};
 ghost use Rattle.mv_syntax.specs.Printed.{printed};
 ghost use Rattle.mv_fields.specs.Reading.{ReadsBy, ReadsAs};
-ghost use Rattle.mv_vpsext.specs.Args.{included_flag, layer_set, layer_sets};
+ghost use Rattle.mv_vpsext.specs.Args.{layer_set, layer_sets};
 ghost use Rattle.mv_vps.specs.LayerSets.{all_layer_sets};
 
-use crate::fields::{u8_except, ue_within};
+use crate::fields::u8_except;
 use mv_bits::BitReader;
-use mv_fields::{print_u8, print_ue, u8_of};
+use mv_fields::{Fault, Printer, u8s_of, ue_within};
 use mv_layers::LayerSet;
+use mv_rules::Rule;
 use std::alloc::{AllocError, Global};
 use std::marker::Model;
 
@@ -33,14 +34,7 @@ impl Model for VpsLayerSets {
     } };
 }
 
-#[tactic(auto, unfolding(mv_vpsext::specs::Args::included_flag))]
-fn included_flag_of(bits: &mut BitReader, j: u8) -> Result<u8, Fault<Rule>>
-    ensures { ReadsBy (included_flag j) bits.old bits.new result }
-{
-    Ok(u8_of(bits, 1)?)
-}
-
-#[tactic(auto, using(mv_syntax::proofs::LoopLaws::item_steps), unfolding(mv_vpsext::specs::Args::layer_set))]
+#[tactic(auto, unfolding(mv_vpsext::specs::Args::layer_set))]
 fn layer_set_of(
     alloc: Global,
     bits: &mut BitReader,
@@ -49,17 +43,12 @@ fn layer_set_of(
     requires { vps_max_layer_id ≤ 62 }
     ensures { ReadsBy (layer_set vps_max_layer_id) bits.old bits.new result }
 {
-    let end = vps_max_layer_id + 1;
-    let mut layer_id_included_flag = Vec::new(alloc);
-    for j in 0..end {
-        layer_id_included_flag.push(included_flag_of(bits, j)?)?;
-    }
     Ok(LayerSet {
-        layer_id_included_flag,
+        layer_id_included_flag: u8s_of(alloc, bits, u32::from(vps_max_layer_id) + 1, 1)?,
     })
 }
 
-#[tactic(auto, using(mv_syntax::proofs::LoopLaws::item_steps), unfolding(mv_vpsext::specs::Args::layer_sets))]
+#[tactic(auto, using(mv_syntax::proofs::LoopLaws::item_steps), unfolding(mv_vpsext::specs::Args::layer_sets, mv_syntax::specs::Loops::each))]
 fn layer_sets_of(
     alloc: Global,
     bits: &mut BitReader,
@@ -72,7 +61,7 @@ fn layer_sets_of(
 {
     let end = vps_num_layer_sets_minus1 + 1;
     let mut all = Vec::new(alloc);
-    for _ in 1..end {
+    for i in 1..end {
         all.push(layer_set_of(alloc, bits, vps_max_layer_id)?)?;
     }
     Ok(all)
@@ -86,7 +75,7 @@ pub(crate) fn all_layer_sets_of(
     ensures { ReadsBy all_layer_sets bits.old bits.new result }
 {
     let vps_max_layer_id = u8_except(bits, 6, 63)?;
-    let vps_num_layer_sets_minus1 = ue_within(bits, 1023)?;
+    let vps_num_layer_sets_minus1 = ue_within(bits, Rule::VpsLimit, 1023)?;
     let sets = layer_sets_of(alloc, bits, vps_num_layer_sets_minus1, vps_max_layer_id)?;
     Ok(VpsLayerSets {
         vps_max_layer_id,
@@ -95,27 +84,7 @@ pub(crate) fn all_layer_sets_of(
     })
 }
 
-#[tactic(auto, unfolding(mv_vpsext::specs::Args::included_flag))]
-fn print_included_flag(out: &mut Printer, flag: u8, j: usize) -> Result<(), AllocError>
-    requires { Valid (included_flag j) flag }
-    ensures { OnOk result (out.new ≡ printed (included_flag j) flag out.old) }
-{
-    out.flag("NAME", flag)
-}
-
-#[tactic(auto, using(mv_syntax::proofs::PrintingLoops::print_item_steps), unfolding(mv_vpsext::specs::Args::layer_set))]
-fn print_flags(out: &mut Printer, flags: &[u8], vps_max_layer_id: u8) -> Result<(), AllocError>
-    requires { Valid (layer_set vps_max_layer_id) flags.now }
-    ensures { OnOk result (out.new ≡ printed (layer_set vps_max_layer_id) flags.now out.old) }
-{
-    for j in 0..flags.len() {
-        let outer = out.open(j as u64)?;
-        print_included_flag(out, flags[j], j)?;
-        out.close(outer);
-    }
-    Ok(())
-}
-
+#[tactic(auto, unfolding(mv_vpsext::specs::Args::layer_set))]
 fn print_layer_set(
     out: &mut Printer,
     set: &LayerSet,
@@ -124,21 +93,29 @@ fn print_layer_set(
     requires { Valid (layer_set vps_max_layer_id) set.now }
     ensures { OnOk result (out.new ≡ printed (layer_set vps_max_layer_id) set.now out.old) }
 {
-    print_flags(out, &set.layer_id_included_flag, vps_max_layer_id)
+    let n = u32::from(vps_max_layer_id) + 1;
+    out.u8s(
+        "layer_id_included_flag",
+        0,
+        n,
+        1,
+        &set.layer_id_included_flag,
+    )
 }
 
-#[tactic(auto, using(mv_syntax::proofs::PrintingLoops::print_item_steps), unfolding(mv_vpsext::specs::Args::layer_sets))]
+#[tactic(auto, using(mv_syntax::proofs::PrintingLoops::print_item_steps), unfolding(mv_vpsext::specs::Args::layer_sets, mv_syntax::specs::Loops::each))]
 fn print_layer_sets(
     out: &mut Printer,
     all: &[LayerSet],
     vps_num_layer_sets_minus1: u32,
     vps_max_layer_id: u8,
 ) -> Result<(), AllocError>
-    requires { Valid (layer_sets vps_num_layer_sets_minus1 vps_max_layer_id) all.now }
+    requires sets { vps_num_layer_sets_minus1 ≤ 1023 }
+    requires valid { Valid (layer_sets vps_num_layer_sets_minus1 vps_max_layer_id) all.now }
     ensures { OnOk result (out.new ≡ printed (layer_sets vps_num_layer_sets_minus1 vps_max_layer_id) all.now out.old) }
 {
     for k in 0..all.len() {
-        let outer = out.open(k as u64)?;
+        let outer = out.open(k as u64 + 1)?;
         print_layer_set(out, &all[k], vps_max_layer_id)?;
         out.close(outer);
     }
@@ -157,5 +134,6 @@ pub(crate) fn print_all_layer_sets(out: &mut Printer, v: &VpsLayerSets) -> Resul
         &v.layer_id_included_flag,
         v.vps_num_layer_sets_minus1,
         v.vps_max_layer_id,
-    )
+    )?;
+    Ok(())
 }

@@ -1,14 +1,18 @@
-//! Payloads that are read, refused and written again. Each was made field by field from the syntax table; the first is that of a
+//! Payloads that are read, refused, written again and shown. Each was made field by field from the syntax table; the first is that of a
 //! stream of two views.
 
 ghost use Rattle.std.specs.Prelude.{IfOk};
 ghost use Rattle.mv_vps.specs.Vps.{ValidVps};
 
 use super::*;
-use mv_common::{Format, Profile};
+use crate::field_tests::*;
+use mv_bits::BitWriter;
+use mv_common::{Format, Profile, SubLayerOrdering};
+use mv_fields::Printer;
 use mv_rules::{ReadFault, Rule};
 use mv_vpsext::VpsExt;
-use std::alloc::Global;
+use std::alloc::{AllocError, Global};
+use std::process::Abort;
 use std::test::Fail;
 
 // Two views of 64 by 64 samples.
@@ -582,7 +586,7 @@ fn tails(rt: HostRuntime) -> Result<(), Fail> {
     Ok(())
 }
 
-fn head_numbers(h: &VpsHead) -> [u32; 7] {
+fn opening_numbers(h: &VpsOpening) -> [u32; 7] {
     [
         u32::from(h.vps_video_parameter_set_id),
         u32::from(h.vps_base_layer_internal_flag),
@@ -596,10 +600,10 @@ fn head_numbers(h: &VpsHead) -> [u32; 7] {
 
 fn base_numbers(b: &VpsBase) -> [u32; 6] {
     [
-        u32::from(b.ordering.vps_sub_layer_ordering_info_present_flag),
+        u32::from(b.ordering.sub_layer_ordering_info_present_flag),
         u32::from(b.layer_sets.vps_max_layer_id),
         b.layer_sets.vps_num_layer_sets_minus1,
-        u32::from(b.head.profile_tier_level.level_idc),
+        u32::from(b.opening.profile_tier_level.level_idc),
         u32::from(b.vps_timing_info_present_flag),
         u32::from(b.vps_extension_flag),
     ]
@@ -619,11 +623,11 @@ const MAIN: Profile = Profile {
     constraint_last_bit: 0,
 };
 
-fn has_main_profile(head: &VpsHead) -> bool {
-    head.profile_tier_level.profile == Some(MAIN)
+fn has_main_profile(opening: &VpsOpening) -> bool {
+    opening.profile_tier_level.profile == Some(MAIN)
 }
 
-// The fields of the head in coded order. Then whether all sub-layers have numbers of pictures, the greatest layer of a layer set,
+// The fields of the opening in coded order. Then whether all sub-layers have numbers of pictures, the greatest layer of a layer set,
 // the number of layer sets less 1, the level, and the flags of timing and extension.
 static BASES: [(&[u8], [u32; 7], [u32; 6]); 4] = [
     (TWO_VIEW, [0, 1, 1, 1, 0, 1, 65_535], [1, 1, 1, 93, 0, 1]),
@@ -634,10 +638,10 @@ static BASES: [(&[u8], [u32; 7], [u32; 6]); 4] = [
 
 #[test]
 fn bases(rt: HostRuntime) -> Result<(), Fail> {
-    for (payload, head, base) in &BASES {
+    for (payload, opening, base) in &BASES {
         let vps = read(rt.alloc(), payload)?;
-        assert_eq!(rt; head_numbers(&vps.base.head), *head);
-        assert!(rt; has_main_profile(&vps.base.head));
+        assert_eq!(rt; opening_numbers(&vps.base.opening), *opening);
+        assert!(rt; has_main_profile(&vps.base.opening));
         assert_eq!(rt; base_numbers(&vps.base), *base);
     }
     Ok(())
@@ -646,12 +650,12 @@ fn bases(rt: HostRuntime) -> Result<(), Fail> {
 // The numbers of pictures of the sub-layers that have them.
 static ORDERINGS: [(&[u8], [u32; 3]); 2] = [(TWO_VIEW, [1, 0, 0]), (HIGHEST, [4, 2, 1])];
 
-fn has_ordering(ordering: &VpsOrdering, pictures: &[u32; 3]) -> bool {
+fn has_ordering(ordering: &SubLayerOrdering, pictures: &[u32; 3]) -> bool {
     match ordering.sub_layers.as_slice() {
         [only] => {
-            only.vps_max_dec_pic_buffering_minus1 == pictures[0]
-                && only.vps_max_num_reorder_pics == pictures[1]
-                && only.vps_max_latency_increase_plus1 == pictures[2]
+            only.max_dec_pic_buffering_minus1 == pictures[0]
+                && only.max_num_reorder_pics == pictures[1]
+                && only.max_latency_increase_plus1 == pictures[2]
         }
         _ => false,
     }
@@ -687,11 +691,11 @@ fn ext_numbers(ext: &VpsExt) -> [u32; 9] {
         u32::from(ext.dimensions.vps_nuh_layer_id_present_flag),
         u32::from(ext.dimensions.view_id_len),
         u32::from(ext.dependencies.vps_sub_layers_max_minus1_present_flag),
-        u32::from(ext.profiles.default_ref_layers_active_flag),
+        u32::from(ext.dependencies.default_ref_layers_active_flag),
         ext.profiles.vps_num_profile_tier_level_minus1,
         ext.formats.vps_num_rep_formats_minus1,
-        u32::from(ext.formats.max_one_active_ref_layer_flag),
-        u32::from(ext.types.vps_vui_present_flag),
+        u32::from(ext.pictures.max_one_active_ref_layer_flag),
+        u32::from(ext.ending.vps_vui_present_flag),
     ]
 }
 
@@ -701,6 +705,178 @@ fn extension_of_two_views(rt: HostRuntime) -> Result<(), Fail> {
     match &vps.extension {
         Some(ext) => assert_eq!(rt; ext_numbers(ext), [0, 0, 1, 0, 1, 2, 0, 1, 0]),
         None => return Err(Fail::from("it has an extension")),
+    }
+    Ok(())
+}
+
+// Appends the bits that a text of zeros and ones has.
+fn add_bits(out: &mut BitWriter, text: &str) -> Result<(), AllocError> {
+    for c in text.as_bytes() {
+        out.u(1, u64::from(*c == b'1'))?;
+    }
+    Ok(())
+}
+
+// The payload of some fields: their bits, and trailing bits.
+fn payload_of(alloc: Global, fields: &[Field]) -> Result<Vec<u8>, AllocError> {
+    let mut out = BitWriter::new(alloc);
+    for field in fields {
+        add_bits(&mut out, field.0)?;
+    }
+    out.trailing()?;
+    Ok(out.into_bytes())
+}
+
+fn add_line(out: &mut Vec<u8>, line: &str) -> Result<(), AllocError> {
+    if !line.is_empty() {
+        out.extend_from_slice(b"  ")?;
+        out.extend_from_slice(line.as_bytes())?;
+        out.extend_from_slice(b"\n")?;
+    }
+    Ok(())
+}
+
+// The text that shows them.
+fn text_of(alloc: Global, fields: &[Field]) -> Result<Vec<u8>, AllocError> {
+    let mut out = Vec::new(alloc);
+    for field in fields {
+        add_line(&mut out, field.1)?;
+    }
+    Ok(out)
+}
+
+fn shown(alloc: Global, vps: &Vps) -> Result<Printer, AllocError>
+    requires { ValidVps vps.now }
+{
+    let mut out = Printer::lines(alloc);
+    show_vps(&mut out, vps)?;
+    Ok(out)
+}
+
+fn read_fields(alloc: Global, fields: &[Field]) -> Result<Vps, Fail>
+    ensures { IfOk result (λ v. ValidVps v) }
+{
+    let payload = payload_of(alloc, fields)?;
+    read(alloc, &payload)
+}
+
+// The fields read, and are written and shown as they stand.
+fn check(rt: &impl Abort, alloc: Global, fields: &[Field]) -> Result<(), Fail> {
+    let vps = read_fields(alloc, fields)?;
+    let payload = payload_of(alloc, fields)?;
+    let written = write_vps(alloc, &vps)?;
+    assert_eq!(rt; written.as_slice(), payload.as_slice());
+    let out = shown(alloc, &vps)?;
+    let text = text_of(alloc, fields)?;
+    assert_eq!(rt; out.text(), text.as_slice());
+    Ok(())
+}
+
+#[test]
+fn field_by_field(rt: HostRuntime) -> Result<(), Fail> {
+    check(&rt, rt.alloc(), HRD_FIELDS)?;
+    check(&rt, rt.alloc(), DIAMOND)?;
+    check(&rt, rt.alloc(), INDEPENDENT)
+}
+
+#[test]
+fn hrds_are_these(rt: HostRuntime) -> Result<(), Fail> {
+    let payload = payload_of(rt.alloc(), HRD_FIELDS)?;
+    assert_eq!(rt; payload.as_slice(), HRDS);
+    Ok(())
+}
+
+#[test]
+fn two_views_shown(rt: HostRuntime) -> Result<(), Fail> {
+    let mut text = Vec::new(rt.alloc());
+    for line in TWO_VIEW_LINES {
+        add_line(&mut text, line)?;
+    }
+    let vps = read(rt.alloc(), TWO_VIEW)?;
+    let out = shown(rt.alloc(), &vps)?;
+    assert_eq!(rt; out.text(), text.as_slice());
+    Ok(())
+}
+
+// A layer: its place, its greatest sub-layer, the index of its format, and whether its pictures lack order counts.
+type PerLayer = (u8, Option<[u8; 4]>);
+
+static HRD_LAYERS: &[PerLayer] = &[(0, Some([0, 0, 0, 0])), (1, None)];
+
+static DIAMOND_LAYERS: &[PerLayer] = &[
+    (0, Some([0, 1, 0, 0])),
+    (1, None),
+    (2, Some([1, 1, 0, 0])),
+    (3, Some([2, 1, 1, 0])),
+    (5, Some([3, 1, 1, 0])),
+];
+
+static INDEPENDENT_LAYERS: &[PerLayer] = &[(0, Some([0, 1, 0, 0])), (1, Some([1, 0, 1, 1]))];
+
+fn numbers_of(vps: &Vps, layer: u8) -> Option<[u8; 4]>
+    requires { ValidVps vps.now }
+{
+    Some([
+        vps.layer_index(layer)?,
+        vps.sub_layers_vps_max_minus1(layer)?,
+        vps.rep_format_index(layer)?,
+        vps.poc_lsb_not_present_flag(layer)?,
+    ])
+}
+
+fn have_numbers(alloc: Global, fields: &[Field], layers: &[PerLayer]) -> Result<bool, Fail> {
+    let vps = read_fields(alloc, fields)?;
+    let mut all = true;
+    for (layer, expected) in layers {
+        all = all && numbers_of(&vps, *layer) == *expected;
+    }
+    Ok(all)
+}
+
+#[test]
+fn per_layer(rt: HostRuntime) -> Result<(), Fail> {
+    assert!(rt; have_numbers(rt.alloc(), HRD_FIELDS, HRD_LAYERS)?);
+    assert!(rt; have_numbers(rt.alloc(), DIAMOND, DIAMOND_LAYERS)?);
+    assert!(rt; have_numbers(rt.alloc(), INDEPENDENT, INDEPENDENT_LAYERS)?);
+    Ok(())
+}
+
+// default_ref_layers_active_flag and max_one_active_ref_layer_flag.
+fn flags_of(alloc: Global, fields: &[Field]) -> Result<[u8; 2], Fail> {
+    let vps = read_fields(alloc, fields)?;
+    Ok([
+        vps.default_ref_layers_active_flag(),
+        vps.max_one_active_ref_layer_flag(),
+    ])
+}
+
+#[test]
+fn flags(rt: HostRuntime) -> Result<(), Fail> {
+    assert_eq!(rt; flags_of(rt.alloc(), HRD_FIELDS)?, [0, 0]);
+    assert_eq!(rt; flags_of(rt.alloc(), DIAMOND)?, [0, 1]);
+    assert_eq!(rt; flags_of(rt.alloc(), INDEPENDENT)?, [1, 0]);
+    Ok(())
+}
+
+// A reference, a layer, and max_tid_il_ref_pics_plus1 of the two.
+static MAX_TIDS: [(u8, u8, u8); 7] = [
+    (0, 2, 7),
+    (2, 5, 1),
+    (3, 5, 0),
+    (0, 5, 7),
+    (5, 3, 7),
+    (2, 4, 7),
+    (4, 5, 7),
+];
+
+#[test]
+fn max_tids(rt: HostRuntime) -> Result<(), Fail> {
+    let vps = read_fields(rt.alloc(), DIAMOND)?;
+    for (reference, layer, expected) in &MAX_TIDS {
+        assert_eq!(rt;
+            vps.max_tid_il_ref_pics_plus1(*reference, *layer),
+            *expected
+        );
     }
     Ok(())
 }

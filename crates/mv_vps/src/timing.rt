@@ -1,13 +1,13 @@
 ghost use Rattle.std.specs.Prelude.{◌≡◌, ◌≤◌, OnOk};
 ghost use Rattle.mv_syntax.specs.Table.{when, Valid};
 ghost use Rattle.mv_syntax.specs.Printed.{printed};
-ghost use Rattle.mv_fields.specs.Reading.{ReadsBy, ReadsAs};
+ghost use Rattle.mv_fields.specs.Reading.{ReadsBy};
 ghost use Rattle.mv_vps.specs.Timing.{timing};
 
-use crate::fields::ue_within;
 use crate::hrds::{VpsHrd, print_vps_hrds, vps_hrds_of};
 use mv_bits::BitReader;
-use mv_fields::{print_u8, print_u32, print_ue, print_ue_if, u8_of, u32_of, ue_if};
+use mv_fields::{Fault, Printer, u8_of, u32_of, ue_if, ue_within};
+use mv_rules::Rule;
 use std::alloc::{AllocError, Global};
 use std::marker::Model;
 
@@ -47,7 +47,7 @@ fn timing_of(alloc: Global, bits: &mut BitReader, subs: u8) -> Result<VpsTiming,
     let vps_poc_proportional_to_timing_flag = u8_of(bits, 1)?;
     let proportional = vps_poc_proportional_to_timing_flag == 1;
     let vps_num_ticks_poc_diff_one_minus1 = ue_if(bits, proportional)?;
-    let vps_num_hrd_parameters = ue_within(bits, 1024)?;
+    let vps_num_hrd_parameters = ue_within(bits, Rule::VpsLimit, 1024)?;
     let hrds = vps_hrds_of(alloc, bits, subs, vps_num_hrd_parameters)?;
     Ok(VpsTiming {
         vps_num_units_in_tick,
@@ -82,10 +82,19 @@ fn print_timing(out: &mut Printer, v: &VpsTiming, subs: u8) -> Result<(), AllocE
 {
     out.u32("vps_num_units_in_tick", 32, v.vps_num_units_in_tick)?;
     out.u32("vps_time_scale", 32, v.vps_time_scale)?;
-    out.flag("vps_poc_proportional_to_timing_flag", v.vps_poc_proportional_to_timing_flag)?;
-    out.ue_if(v.vps_poc_proportional_to_timing_flag == 1, "vps_num_ticks_poc_diff_one_minus1", v.vps_num_ticks_poc_diff_one_minus1)?;
+    out.flag(
+        "vps_poc_proportional_to_timing_flag",
+        v.vps_poc_proportional_to_timing_flag,
+    )?;
+    let proportional = v.vps_poc_proportional_to_timing_flag == 1;
+    out.ue_if(
+        proportional,
+        "vps_num_ticks_poc_diff_one_minus1",
+        v.vps_num_ticks_poc_diff_one_minus1,
+    )?;
     out.ue("vps_num_hrd_parameters", v.vps_num_hrd_parameters)?;
-    print_vps_hrds(out, &v.hrds, subs, v.vps_num_hrd_parameters)
+    print_vps_hrds(out, &v.hrds, subs, v.vps_num_hrd_parameters)?;
+    Ok(())
 }
 
 pub(crate) fn print_timing_if(

@@ -1,7 +1,8 @@
-ghost use Rattle.std.specs.Prelude.{◌≡◌, ◌≤◌, ◌<◌, ◌^◌, [], length, OnOk, IfOk};
+ghost use Rattle.std.specs.Prelude.{◌≡◌, ◌≤◌, ◌<◌, ◌^◌, [], length, OnOk, IfOk, ◌⊎◌};
 ghost use Rattle.mv_syntax.specs.Table.{Valid};
-ghost use Rattle.mv_syntax.specs.Printed.{printed};
-ghost use Rattle.mv_fields.specs.Reading.{ReadsBy, ReadsAs};
+ghost use Rattle.mv_syntax.specs.Printed.{bits, printed};
+ghost use Rattle.mv_fields.specs.Output.{IsText};
+ghost use Rattle.mv_fields.specs.Reading.{ReadsAs};
 ghost use Rattle.mv_vpsext.specs.Args.{AreVpsArgs};
 ghost use Rattle.mv_vps.specs.Base.{args_of};
 ghost use Rattle.mv_vps.specs.Vps.{vps_fields, described};
@@ -9,8 +10,9 @@ ghost use Rattle.mv_vps.specs.Vps.{vps_fields, described};
 use crate::base::{VpsBase, aligned_base_of, print_aligned_base};
 use crate::extension::{extension_of, has_extension2_flag, print_extension};
 use mv_bits::BitReader;
-use mv_fields::{print_u8_if, u8_if};
+use mv_fields::{Fault, Printer, u8_if};
 use mv_layers::Derived;
+use mv_rules::Rule;
 use mv_vpsext::VpsExt;
 use std::alloc::{AllocError, Global};
 use std::marker::Model;
@@ -69,16 +71,18 @@ pub(crate) fn fields_of(alloc: Global, bits: &mut BitReader) -> Result<Vps, Faul
     })
 }
 
-/// Writes the fields of a video parameter set at the head of a payload, up to the tail.
+/// Prints the fields of a video parameter set at the head of a payload, up to the tail.
 #[tactic(auto, unfolding(crate::specs::Vps::vps_fields))]
 pub(crate) fn print_fields(out: &mut Printer, v: &Vps) -> Result<(), AllocError>
-    requires at_head { out.old ≡ [] }
-    requires few { v.now.coded.0.base.head.vps_max_sub_layers_minus1 ≤ 6 }
+    requires at_head { (out.old ≡ bits []) ⊎ IsText out.old }
+    requires few { v.now.coded.0.base.opening.vps_max_sub_layers_minus1 ≤ 6 }
     requires args { AreVpsArgs (args_of v.now.coded.0.base) }
     requires valid { Valid vps_fields v.now.coded.0 }
     ensures { OnOk result (out.new ≡ printed vps_fields v.now.coded.0 out.old) }
 {
     print_aligned_base(out, &v.base)?;
     print_extension(out, &v.base, &v.extension)?;
-    out.flag_if(has_extension2_flag(&v.extension), "vps_extension2_flag", v.vps_extension2_flag)
+    let has_flag = has_extension2_flag(&v.extension);
+    out.flag_if(has_flag, "vps_extension2_flag", v.vps_extension2_flag)?;
+    Ok(())
 }

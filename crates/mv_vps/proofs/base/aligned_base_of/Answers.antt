@@ -1,5 +1,5 @@
 use Rattle.std.proofs.Common.{ap, sym, ◌∙◌}
-use Rattle.mv_vps.specs.Faults.{means}
+use Rattle.mv_fields.specs.Faults.{means}
 use Rattle.mv_vps.proofs.Aligned.{ne_is, eq_is, taken_since, base_fails, plain_read, ones_read, ones_fail}
 use Rattle.mv_vps.proofs.base.aligned_base_of.Goals as goal
 
