@@ -709,40 +709,30 @@ fn extension_of_two_views(rt: HostRuntime) -> Result<(), Fail> {
     Ok(())
 }
 
-// Appends the bits that a text of zeros and ones has.
-fn add_bits(out: &mut BitWriter, text: &str) -> Result<(), AllocError> {
-    for c in text.as_bytes() {
-        out.u(1, u64::from(*c == b'1'))?;
+// What fields spell: their payload, with trailing bits, and the text that shows them. Each stands on a line of its own: its bits,
+// and behind a blank, where a line shows it, that line.
+fn spelled(alloc: Global, fields: &str) -> Result<(Vec<u8>, Vec<u8>), AllocError> {
+    let mut bits = BitWriter::new(alloc);
+    let mut text = Vec::new(alloc);
+    let mut shown = false;
+    for c in fields.as_bytes() {
+        match *c {
+            b'\n' => {
+                if shown {
+                    text.push(b'\n')?;
+                }
+                shown = false;
+            }
+            b' ' => {
+                text.extend_from_slice(b"  ")?;
+                shown = true;
+            }
+            c if shown => text.push(c)?,
+            c => bits.u(1, u64::from(c == b'1'))?,
+        }
     }
-    Ok(())
-}
-
-// The payload of some fields: their bits, and trailing bits.
-fn payload_of(alloc: Global, fields: &[Field]) -> Result<Vec<u8>, AllocError> {
-    let mut out = BitWriter::new(alloc);
-    for field in fields {
-        add_bits(&mut out, field.0)?;
-    }
-    out.trailing()?;
-    Ok(out.into_bytes())
-}
-
-fn add_line(out: &mut Vec<u8>, line: &str) -> Result<(), AllocError> {
-    if !line.is_empty() {
-        out.extend_from_slice(b"  ")?;
-        out.extend_from_slice(line.as_bytes())?;
-        out.extend_from_slice(b"\n")?;
-    }
-    Ok(())
-}
-
-// The text that shows them.
-fn text_of(alloc: Global, fields: &[Field]) -> Result<Vec<u8>, AllocError> {
-    let mut out = Vec::new(alloc);
-    for field in fields {
-        add_line(&mut out, field.1)?;
-    }
-    Ok(out)
+    bits.trailing()?;
+    Ok((bits.into_bytes(), text))
 }
 
 fn shown(alloc: Global, vps: &Vps) -> Result<Printer, AllocError>
@@ -753,21 +743,20 @@ fn shown(alloc: Global, vps: &Vps) -> Result<Printer, AllocError>
     Ok(out)
 }
 
-fn read_fields(alloc: Global, fields: &[Field]) -> Result<Vps, Fail>
+fn read_fields(alloc: Global, fields: &str) -> Result<Vps, Fail>
     ensures { IfOk result (λ v. ValidVps v) }
 {
-    let payload = payload_of(alloc, fields)?;
+    let (payload, _text) = spelled(alloc, fields)?;
     read(alloc, &payload)
 }
 
 // The fields read, and are written and shown as they stand.
-fn check(rt: &impl Abort, alloc: Global, fields: &[Field]) -> Result<(), Fail> {
-    let vps = read_fields(alloc, fields)?;
-    let payload = payload_of(alloc, fields)?;
+fn check(rt: &impl Abort, alloc: Global, fields: &str) -> Result<(), Fail> {
+    let (payload, text) = spelled(alloc, fields)?;
+    let vps = read(alloc, &payload)?;
     let written = write_vps(alloc, &vps)?;
     assert_eq!(rt; written.as_slice(), payload.as_slice());
     let out = shown(alloc, &vps)?;
-    let text = text_of(alloc, fields)?;
     assert_eq!(rt; out.text(), text.as_slice());
     Ok(())
 }
@@ -781,20 +770,16 @@ fn field_by_field(rt: HostRuntime) -> Result<(), Fail> {
 
 #[test]
 fn hrds_are_these(rt: HostRuntime) -> Result<(), Fail> {
-    let payload = payload_of(rt.alloc(), HRD_FIELDS)?;
+    let (payload, _text) = spelled(rt.alloc(), HRD_FIELDS)?;
     assert_eq!(rt; payload.as_slice(), HRDS);
     Ok(())
 }
 
 #[test]
 fn two_views_shown(rt: HostRuntime) -> Result<(), Fail> {
-    let mut text = Vec::new(rt.alloc());
-    for line in TWO_VIEW_LINES {
-        add_line(&mut text, line)?;
-    }
     let vps = read(rt.alloc(), TWO_VIEW)?;
     let out = shown(rt.alloc(), &vps)?;
-    assert_eq!(rt; out.text(), text.as_slice());
+    assert_eq!(rt; out.text(), TWO_VIEW_LINES.as_bytes());
     Ok(())
 }
 
@@ -824,7 +809,7 @@ fn numbers_of(vps: &Vps, layer: u8) -> Option<[u8; 4]>
     ])
 }
 
-fn have_numbers(alloc: Global, fields: &[Field], layers: &[PerLayer]) -> Result<bool, Fail> {
+fn have_numbers(alloc: Global, fields: &str, layers: &[PerLayer]) -> Result<bool, Fail> {
     let vps = read_fields(alloc, fields)?;
     let mut all = true;
     for (layer, expected) in layers {
@@ -842,7 +827,7 @@ fn per_layer(rt: HostRuntime) -> Result<(), Fail> {
 }
 
 // default_ref_layers_active_flag and max_one_active_ref_layer_flag.
-fn flags_of(alloc: Global, fields: &[Field]) -> Result<[u8; 2], Fail> {
+fn flags_of(alloc: Global, fields: &str) -> Result<[u8; 2], Fail> {
     let vps = read_fields(alloc, fields)?;
     Ok([
         vps.default_ref_layers_active_flag(),
