@@ -1,4 +1,4 @@
-use Rattle.std.proofs.Common.{◌≡◌, [], ◌∷◌, List, ℕ, refl, sym, subst, lit<, lit≤}
+use Rattle.std.proofs.Common.{[], ◌∷◌, List, ℕ, refl, sym, subst, lit<, lit≤}
 use Rattle.mv_syntax.specs.Loops.{items, each}
 use Rattle.mv_vpsext.specs.Args.{VpsArgsValue, AreVpsArgs, layer_set, layer_sets}
 use Rattle.mv_vpsext.proofs.tests.diamond.Goals as goal
