@@ -1,8 +1,9 @@
 //! Video parameter sets that the tests show, field by field: the bits of each and the line that shows it. No line shows the ones
-//! before an extension.
+//! before an extension. Each is a function's, since the check of a function costs what the texts that stand in it cost.
 
 /// Two hrd_parameters: the second has no first group of its own.
-pub static HRD_FIELDS: &str = "\
+pub fn hrd_fields() -> &'static str {
+    "\
 0000 vps_video_parameter_set_id=0
 1 vps_base_layer_internal_flag=1
 1 vps_base_layer_available_flag=1
@@ -57,10 +58,12 @@ pub static HRD_FIELDS: &str = "\
 00000000110010001 cpb_size_value_minus1[1][0][0]=400
 1 cbr_flag[1][0][0]=1
 0 vps_extension_flag=0
-";
+"
+}
 
 /// Four layers, of which the last refers to the two before it, and these to the first.
-pub static DIAMOND: &str = "\
+pub fn diamond() -> &'static str {
+    "\
 0101 vps_video_parameter_set_id=5
 1 vps_base_layer_internal_flag=1
 1 vps_base_layer_available_flag=1
@@ -251,10 +254,12 @@ pub static DIAMOND: &str = "\
 10100101 vps_non_vui_extension_data_byte[1]=165
 0 vps_vui_present_flag=0
 0 vps_extension2_flag=0
-";
+"
+}
 
 /// Two layers that refer to no other, and a VUI of three bits.
-pub static INDEPENDENT: &str = "\
+pub fn independent() -> &'static str {
+    "\
 0000 vps_video_parameter_set_id=0
 1 vps_base_layer_internal_flag=1
 1 vps_base_layer_available_flag=1
@@ -369,10 +374,12 @@ pub static INDEPENDENT: &str = "\
 1 vps_non_vui_extension_length=0
 1 vps_vui_present_flag=1
 101 tail=3
-";
+"
+}
 
 /// The lines of a stream of two views.
-pub static TWO_VIEW_LINES: &str = "  vps_video_parameter_set_id=0
+pub fn two_view_lines() -> &'static str {
+    "  vps_video_parameter_set_id=0
   vps_base_layer_internal_flag=1
   vps_base_layer_available_flag=1
   vps_max_layers_minus1=1
@@ -466,4 +473,5 @@ pub static TWO_VIEW_LINES: &str = "  vps_video_parameter_set_id=0
   vps_non_vui_extension_length=0
   vps_vui_present_flag=0
   vps_extension2_flag=0
-";
+"
+}

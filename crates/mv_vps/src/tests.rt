@@ -763,14 +763,14 @@ fn check(rt: &impl Abort, alloc: Global, fields: &str) -> Result<(), Fail> {
 
 #[test]
 fn field_by_field(rt: HostRuntime) -> Result<(), Fail> {
-    check(&rt, rt.alloc(), HRD_FIELDS)?;
-    check(&rt, rt.alloc(), DIAMOND)?;
-    check(&rt, rt.alloc(), INDEPENDENT)
+    check(&rt, rt.alloc(), hrd_fields())?;
+    check(&rt, rt.alloc(), diamond())?;
+    check(&rt, rt.alloc(), independent())
 }
 
 #[test]
 fn hrds_are_these(rt: HostRuntime) -> Result<(), Fail> {
-    let (payload, _text) = spelled(rt.alloc(), HRD_FIELDS)?;
+    let (payload, _text) = spelled(rt.alloc(), hrd_fields())?;
     assert_eq!(rt; payload.as_slice(), HRDS);
     Ok(())
 }
@@ -779,7 +779,7 @@ fn hrds_are_these(rt: HostRuntime) -> Result<(), Fail> {
 fn two_views_shown(rt: HostRuntime) -> Result<(), Fail> {
     let vps = read(rt.alloc(), TWO_VIEW)?;
     let out = shown(rt.alloc(), &vps)?;
-    assert_eq!(rt; out.text(), TWO_VIEW_LINES.as_bytes());
+    assert_eq!(rt; out.text(), two_view_lines().as_bytes());
     Ok(())
 }
 
@@ -820,9 +820,9 @@ fn have_numbers(alloc: Global, fields: &str, layers: &[PerLayer]) -> Result<bool
 
 #[test]
 fn per_layer(rt: HostRuntime) -> Result<(), Fail> {
-    assert!(rt; have_numbers(rt.alloc(), HRD_FIELDS, HRD_LAYERS)?);
-    assert!(rt; have_numbers(rt.alloc(), DIAMOND, DIAMOND_LAYERS)?);
-    assert!(rt; have_numbers(rt.alloc(), INDEPENDENT, INDEPENDENT_LAYERS)?);
+    assert!(rt; have_numbers(rt.alloc(), hrd_fields(), HRD_LAYERS)?);
+    assert!(rt; have_numbers(rt.alloc(), diamond(), DIAMOND_LAYERS)?);
+    assert!(rt; have_numbers(rt.alloc(), independent(), INDEPENDENT_LAYERS)?);
     Ok(())
 }
 
@@ -837,9 +837,9 @@ fn flags_of(alloc: Global, fields: &str) -> Result<[u8; 2], Fail> {
 
 #[test]
 fn flags(rt: HostRuntime) -> Result<(), Fail> {
-    assert_eq!(rt; flags_of(rt.alloc(), HRD_FIELDS)?, [0, 0]);
-    assert_eq!(rt; flags_of(rt.alloc(), DIAMOND)?, [0, 1]);
-    assert_eq!(rt; flags_of(rt.alloc(), INDEPENDENT)?, [1, 0]);
+    assert_eq!(rt; flags_of(rt.alloc(), hrd_fields())?, [0, 0]);
+    assert_eq!(rt; flags_of(rt.alloc(), diamond())?, [0, 1]);
+    assert_eq!(rt; flags_of(rt.alloc(), independent())?, [1, 0]);
     Ok(())
 }
 
@@ -856,7 +856,7 @@ static MAX_TIDS: [(u8, u8, u8); 7] = [
 
 #[test]
 fn max_tids(rt: HostRuntime) -> Result<(), Fail> {
-    let vps = read_fields(rt.alloc(), DIAMOND)?;
+    let vps = read_fields(rt.alloc(), diamond())?;
     for (reference, layer, expected) in &MAX_TIDS {
         assert_eq!(rt;
             vps.max_tid_il_ref_pics_plus1(*reference, *layer),
