@@ -73,89 +73,122 @@ fn check(
     Ok(())
 }
 
-// A layer, a payload, and its parts.
-static STREAMS: [(u8, &[u8], &[Part]); 7] = [
-    // The sets of a stream of two views; a layer above 0 has all fields where its first field of 3 bits isn't 7.
-    (
+// A payload of a stream is that of its parts, in a layer.
+fn check_stream(
+    rt: &impl Abort,
+    alloc: Global,
+    layer: u8,
+    bytes: &[u8],
+    parts: &[Part],
+) -> Result<(), Fail> {
+    let payload = payload_of(alloc, parts)?;
+    assert_eq!(rt; payload.as_slice(), bytes);
+    check(rt, alloc, layer, 0, parts)
+}
+
+// The sets of a stream of two views; a layer above 0 has all fields where its first field of 3 bits isn't 7.
+#[test]
+fn sets_of_two_views(rt: HostRuntime) -> Result<(), Fail> {
+    check_stream(
+        &rt,
+        rt.alloc(),
         0,
         &[
             0x01, 0x01, 0x60, 0, 0, 0, 0x90, 0, 0, 0, 0, 0, 0x5D, 0xA0, 0x20, 0x81, 0x05, 0xEB,
             0xAB, 0xC2, 0x08,
         ],
         &[
-            OPENING,
-            FORMAT,
-            FOUR_BITS,
-            ALONE,
-            BLOCKS,
-            NO_LISTS,
-            NO_TOOLS,
-            NO_REFERENCES,
-            NO_FLAGS,
-            NO_VUI,
-            NO_EXTENSION,
+            opening(),
+            format(),
+            four_bits(),
+            alone(),
+            blocks(),
+            no_lists(),
+            no_tools(),
+            no_references(),
+            no_flags(),
+            no_vui(),
+            no_extension(),
         ],
-    ),
-    (
+    )?;
+    check_stream(
+        &rt,
+        rt.alloc(),
         1,
         &[
             0x01, 0x01, 0x60, 0, 0, 0, 0x90, 0, 0, 0, 0, 0, 0x5D, 0xA0, 0x20, 0x81, 0x05, 0xEB,
             0xAB, 0xC2, 0x08,
         ],
         &[
-            OPENING,
-            FORMAT,
-            FOUR_BITS,
-            ALONE,
-            BLOCKS,
-            NO_LISTS,
-            NO_TOOLS,
-            NO_REFERENCES,
-            NO_FLAGS,
-            NO_VUI,
-            NO_EXTENSION,
+            opening(),
+            format(),
+            four_bits(),
+            alone(),
+            blocks(),
+            no_lists(),
+            no_tools(),
+            no_references(),
+            no_flags(),
+            no_vui(),
+            no_extension(),
         ],
-    ),
-    (
+    )?;
+    check_stream(
+        &rt,
+        rt.alloc(),
         1,
         &[0x0E, 0x9A, 0xBC, 0x21, 0x40, 0x40],
         &[
-            LAYERED,
-            OWN_FORMAT,
-            FOUR_BITS,
-            BLOCKS,
-            NO_LISTS,
-            NO_TOOLS,
-            NO_REFERENCES,
-            NO_FLAGS,
-            NO_VUI,
-            MULTILAYER,
+            layered(),
+            own_format(),
+            four_bits(),
+            blocks(),
+            no_lists(),
+            no_tools(),
+            no_references(),
+            no_flags(),
+            no_vui(),
+            multilayer(),
         ],
-    ),
-    // A set of an encoder, x265, without options.
-    (
+    )?;
+    Ok(())
+}
+
+// A set of an encoder, x265, without options.
+#[test]
+fn set_of_an_encoder(rt: HostRuntime) -> Result<(), Fail> {
+    check_stream(
+        &rt,
+        rt.alloc(),
         0,
         &[
             0x01, 0x01, 0x60, 0, 0, 0, 0x90, 0, 0, 0, 0, 0, 0x1E, 0xA0, 0x20, 0x81, 0x05, 0x96,
             0x56, 0x69, 0x24, 0xCA, 0xE0, 0x10, 0, 0, 0x3E, 0x80, 0, 0x06, 0x1A, 0x80, 0x80,
         ],
         &[
-            LEVEL_1,
-            FORMAT,
-            EIGHT_BITS,
-            REORDERED,
-            LARGE_BLOCKS,
-            NO_LISTS,
-            OFFSET,
-            NO_REFERENCES,
-            BOTH_FLAGS,
-            TIMED,
-            NO_EXTENSION,
+            level_1(),
+            format(),
+            eight_bits(),
+            reordered(),
+            large_blocks(),
+            no_lists(),
+            offset(),
+            no_references(),
+            both_flags(),
+            timed(),
+            no_extension(),
         ],
-    ),
-    // With --sar 16:11 --overscan show --videoformat pal --range full --colorprim bt709 --transfer bt709 --colormatrix
-    // bt709 --chromaloc 1 --display-window 2,0,4,0.
-    (
+    )?;
+    Ok(())
+}
+
+// With --sar 16:11 --overscan show --videoformat pal --range full --colorprim bt709 --transfer bt709 --colormatrix
+// bt709 --chromaloc 1 --display-window 2,0,4,0.
+#[test]
+fn set_with_usability_information(rt: HostRuntime) -> Result<(), Fail> {
+    check_stream(
+        &rt,
+        rt.alloc(),
         0,
         &[
             0x01, 0x01, 0x60, 0, 0, 0, 0x90, 0, 0, 0, 0, 0, 0x1E, 0xA0, 0x20, 0x81, 0x05, 0x96,
@@ -163,21 +196,28 @@ static STREAMS: [(u8, &[u8], &[Part]); 7] = [
             0xFA, 0, 0, 0x18, 0x6A, 0x02,
         ],
         &[
-            LEVEL_1,
-            FORMAT,
-            EIGHT_BITS,
-            REORDERED,
-            LARGE_BLOCKS,
-            NO_LISTS,
-            OFFSET,
-            NO_REFERENCES,
-            BOTH_FLAGS,
-            COLOURED,
-            NO_EXTENSION,
+            level_1(),
+            format(),
+            eight_bits(),
+            reordered(),
+            large_blocks(),
+            no_lists(),
+            offset(),
+            no_references(),
+            both_flags(),
+            coloured(),
+            no_extension(),
         ],
-    ),
-    // With --hrd --vbv-bufsize 1000 --vbv-maxrate 1000 --bitrate 900 --temporal-layers.
-    (
+    )?;
+    Ok(())
+}
+
+// With --hrd --vbv-bufsize 1000 --vbv-maxrate 1000 --bitrate 900 --temporal-layers.
+#[test]
+fn set_with_a_hypothetical_decoder(rt: HostRuntime) -> Result<(), Fail> {
+    check_stream(
+        &rt,
+        rt.alloc(),
         0,
         &[
             0x02, 0x01, 0x60, 0, 0, 0, 0x90, 0, 0, 0, 0, 0, 0x3C, 0, 0, 0xA0, 0x20, 0x81, 0x05,
@@ -186,337 +226,394 @@ static STREAMS: [(u8, &[u8], &[Part]); 7] = [
             0x3D, 0x09, 0x10,
         ],
         &[
-            TWO_SUB_LAYERS,
-            FORMAT,
-            EIGHT_BITS,
-            REORDERED_TWICE,
-            LARGE_BLOCKS,
-            NO_LISTS,
-            OFFSET,
-            NO_REFERENCES,
-            BOTH_FLAGS,
-            SCHEDULED,
-            NO_EXTENSION,
+            two_sub_layers(),
+            format(),
+            eight_bits(),
+            reordered_twice(),
+            large_blocks(),
+            no_lists(),
+            offset(),
+            no_references(),
+            both_flags(),
+            scheduled(),
+            no_extension(),
         ],
-    ),
-    // With --scaling-list default --amp --ctu 16 and others.
-    (
+    )?;
+    Ok(())
+}
+
+// With --scaling-list default --amp --ctu 16 and others.
+#[test]
+fn set_with_default_lists(rt: HostRuntime) -> Result<(), Fail> {
+    check_stream(
+        &rt,
+        rt.alloc(),
         0,
         &[
             0x01, 0x01, 0x60, 0, 0, 0, 0x90, 0, 0, 0, 0, 0, 0x1E, 0xA0, 0x20, 0x81, 0x05, 0x96,
             0x56, 0x6A, 0xBE, 0xD7, 0, 0x80, 0, 0x01, 0xF4, 0, 0, 0x30, 0xD4, 0x04,
         ],
         &[
-            LEVEL_1,
-            FORMAT,
-            EIGHT_BITS,
-            REORDERED,
-            BLOCKS,
-            DEFAULT_LISTS,
-            PARTED,
-            NO_REFERENCES,
-            BOTH_FLAGS,
-            TIMED,
-            NO_EXTENSION,
+            level_1(),
+            format(),
+            eight_bits(),
+            reordered(),
+            blocks(),
+            default_lists(),
+            parted(),
+            no_references(),
+            both_flags(),
+            timed(),
+            no_extension(),
         ],
-    ),
-];
-
-#[test]
-fn streams(rt: HostRuntime) -> Result<(), Fail> {
-    for (layer, bytes, parts) in &STREAMS {
-        let payload = payload_of(rt.alloc(), parts)?;
-        assert_eq!(rt; payload.as_slice(), *bytes);
-        check(&rt, rt.alloc(), *layer, 0, parts)?;
-    }
+    )?;
     Ok(())
 }
 
-// A layer, how many sub-layers stand below the highest in the VPS, and the parts.
-static ROWS: [(u8, u8, &[Part]); 16] = [
-    // 4:4:4 with a window and 16 bits a sample, and the greatest height.
-    (
+// 4:4:4 with a window and 16 bits a sample, and the greatest height.
+#[test]
+fn formats(rt: HostRuntime) -> Result<(), Fail> {
+    check(
+        &rt,
+        rt.alloc(),
         0,
         0,
         &[
-            OPENING,
-            WINDOWED,
-            FOUR_BITS,
-            ALONE,
-            BLOCKS,
-            NO_LISTS,
-            NO_TOOLS,
-            NO_REFERENCES,
-            NO_FLAGS,
-            NO_VUI,
-            NO_EXTENSION,
+            opening(),
+            windowed(),
+            four_bits(),
+            alone(),
+            blocks(),
+            no_lists(),
+            no_tools(),
+            no_references(),
+            no_flags(),
+            no_vui(),
+            no_extension(),
         ],
-    ),
-    (
+    )?;
+    check(
+        &rt,
+        rt.alloc(),
         0,
         0,
         &[
-            OPENING,
-            HIGH,
-            FOUR_BITS,
-            ALONE,
-            BLOCKS,
-            NO_LISTS,
-            NO_TOOLS,
-            NO_REFERENCES,
-            NO_FLAGS,
-            NO_VUI,
-            NO_EXTENSION,
+            opening(),
+            high(),
+            four_bits(),
+            alone(),
+            blocks(),
+            no_lists(),
+            no_tools(),
+            no_references(),
+            no_flags(),
+            no_vui(),
+            no_extension(),
         ],
-    ),
-    // The last index of a format, in the last layer and the last set.
-    (
+    )?;
+    Ok(())
+}
+
+// The last index of a format, in the last layer and the last set.
+#[test]
+fn last_index_of_a_format(rt: HostRuntime) -> Result<(), Fail> {
+    check(
+        &rt,
+        rt.alloc(),
         62,
         0,
         &[
-            LAYERED_15,
-            FORMAT_255,
-            FOUR_BITS,
-            BLOCKS,
-            NO_LISTS,
-            NO_TOOLS,
-            NO_REFERENCES,
-            NO_FLAGS,
-            NO_VUI,
-            NO_EXTENSION,
+            layered_15(),
+            format_255(),
+            four_bits(),
+            blocks(),
+            no_lists(),
+            no_tools(),
+            no_references(),
+            no_flags(),
+            no_vui(),
+            no_extension(),
         ],
-    ),
-    // The numbers of three sub-layers, of which two have levels and one a profile; of the highest alone, and the
-    // greatest.
-    (
+    )?;
+    Ok(())
+}
+
+// The numbers of three sub-layers, of which two have levels and one a profile; of the highest alone, and the
+// greatest.
+#[test]
+fn sub_layers(rt: HostRuntime) -> Result<(), Fail> {
+    check(
+        &rt,
+        rt.alloc(),
         0,
         0,
         &[
-            THREE_SUB_LAYERS,
-            FORMAT,
-            FOUR_BITS,
-            THREE,
-            BLOCKS,
-            NO_LISTS,
-            NO_TOOLS,
-            NO_REFERENCES,
-            NO_FLAGS,
-            NO_VUI,
-            NO_EXTENSION,
+            three_sub_layers(),
+            format(),
+            four_bits(),
+            three(),
+            blocks(),
+            no_lists(),
+            no_tools(),
+            no_references(),
+            no_flags(),
+            no_vui(),
+            no_extension(),
         ],
-    ),
-    (
+    )?;
+    check(
+        &rt,
+        rt.alloc(),
         0,
         0,
         &[
-            THREE_SUB_LAYERS,
-            FORMAT,
-            FOUR_BITS,
-            HIGHEST,
-            BLOCKS,
-            NO_LISTS,
-            NO_TOOLS,
-            NO_REFERENCES,
-            NO_FLAGS,
-            NO_VUI,
-            NO_EXTENSION,
+            three_sub_layers(),
+            format(),
+            four_bits(),
+            highest(),
+            blocks(),
+            no_lists(),
+            no_tools(),
+            no_references(),
+            no_flags(),
+            no_vui(),
+            no_extension(),
         ],
-    ),
-    (
+    )?;
+    check(
+        &rt,
+        rt.alloc(),
         0,
         0,
         &[
-            THREE_SUB_LAYERS,
-            FORMAT,
-            FOUR_BITS,
-            GREATEST,
-            BLOCKS,
-            NO_LISTS,
-            NO_TOOLS,
-            NO_REFERENCES,
-            NO_FLAGS,
-            NO_VUI,
-            NO_EXTENSION,
+            three_sub_layers(),
+            format(),
+            four_bits(),
+            greatest(),
+            blocks(),
+            no_lists(),
+            no_tools(),
+            no_references(),
+            no_flags(),
+            no_vui(),
+            no_extension(),
         ],
-    ),
-    // Scaling lists of layer 2, the default ones, and own ones, of which two are coded.
-    (
+    )?;
+    Ok(())
+}
+
+// Scaling lists of layer 2, the default ones, and own ones, of which two are coded.
+#[test]
+fn scaling_lists(rt: HostRuntime) -> Result<(), Fail> {
+    check(
+        &rt,
+        rt.alloc(),
         1,
         0,
         &[
-            LAYERED,
-            OWN_FORMAT,
-            FOUR_BITS,
-            BLOCKS,
-            LISTS_OF_LAYER_2,
-            NO_TOOLS,
-            NO_REFERENCES,
-            NO_FLAGS,
-            NO_VUI,
-            NO_EXTENSION,
+            layered(),
+            own_format(),
+            four_bits(),
+            blocks(),
+            lists_of_layer_2(),
+            no_tools(),
+            no_references(),
+            no_flags(),
+            no_vui(),
+            no_extension(),
         ],
-    ),
-    (
+    )?;
+    check(
+        &rt,
+        rt.alloc(),
         1,
         0,
         &[
-            LAYERED,
-            OWN_FORMAT,
-            FOUR_BITS,
-            BLOCKS,
-            OWN_DEFAULT_LISTS,
-            NO_TOOLS,
-            NO_REFERENCES,
-            NO_FLAGS,
-            NO_VUI,
-            NO_EXTENSION,
+            layered(),
+            own_format(),
+            four_bits(),
+            blocks(),
+            own_default_lists(),
+            no_tools(),
+            no_references(),
+            no_flags(),
+            no_vui(),
+            no_extension(),
         ],
-    ),
-    (
+    )?;
+    check(
+        &rt,
+        rt.alloc(),
         0,
         0,
         &[
-            OPENING,
-            FORMAT,
-            FOUR_BITS,
-            ALONE,
-            BLOCKS,
-            LISTS,
-            NO_TOOLS,
-            NO_REFERENCES,
-            NO_FLAGS,
-            NO_VUI,
-            NO_EXTENSION,
+            opening(),
+            format(),
+            four_bits(),
+            alone(),
+            blocks(),
+            lists(),
+            no_tools(),
+            no_references(),
+            no_flags(),
+            no_vui(),
+            no_extension(),
         ],
-    ),
-    // All tools, with samples coded as they are.
-    (
+    )?;
+    Ok(())
+}
+
+// All tools, with samples coded as they are.
+#[test]
+fn tools(rt: HostRuntime) -> Result<(), Fail> {
+    check(
+        &rt,
+        rt.alloc(),
         1,
         0,
         &[
-            LAYERED,
-            OWN_FORMAT,
-            FOUR_BITS,
-            BLOCKS,
-            NO_LISTS,
-            ALL_TOOLS,
-            NO_REFERENCES,
-            NO_FLAGS,
-            NO_VUI,
-            NO_EXTENSION,
+            layered(),
+            own_format(),
+            four_bits(),
+            blocks(),
+            no_lists(),
+            all_tools(),
+            no_references(),
+            no_flags(),
+            no_vui(),
+            no_extension(),
         ],
-    ),
-    // A set with -1, one predicted from it by 1, of which 1 alone is used, and a long-term candidate of 5 bits.
-    (
+    )?;
+    Ok(())
+}
+
+// A set with -1, one predicted from it by 1, of which 1 alone is used, and a long-term candidate of 5 bits.
+#[test]
+fn short_and_long_term_sets(rt: HostRuntime) -> Result<(), Fail> {
+    check(
+        &rt,
+        rt.alloc(),
         1,
         0,
         &[
-            LAYERED,
-            OWN_FORMAT,
-            FIVE_BITS,
-            BLOCKS,
-            NO_LISTS,
-            NO_TOOLS,
-            REFERENCES,
-            NO_FLAGS,
-            NO_VUI,
-            NO_EXTENSION,
+            layered(),
+            own_format(),
+            five_bits(),
+            blocks(),
+            no_lists(),
+            no_tools(),
+            references(),
+            no_flags(),
+            no_vui(),
+            no_extension(),
         ],
-    ),
-    // A hypothetical decoder with the three sub-layers of the VPS, and all usability information with two sub-layers.
-    (
+    )?;
+    Ok(())
+}
+
+// A hypothetical decoder with the three sub-layers of the VPS, and all usability information with two sub-layers.
+#[test]
+fn usability_information(rt: HostRuntime) -> Result<(), Fail> {
+    check(
+        &rt,
+        rt.alloc(),
         1,
         2,
         &[
-            LAYERED,
-            OWN_FORMAT,
-            FOUR_BITS,
-            BLOCKS,
-            NO_LISTS,
-            NO_TOOLS,
-            NO_REFERENCES,
-            NO_FLAGS,
-            DECODER,
-            NO_EXTENSION,
+            layered(),
+            own_format(),
+            four_bits(),
+            blocks(),
+            no_lists(),
+            no_tools(),
+            no_references(),
+            no_flags(),
+            decoder(),
+            no_extension(),
         ],
-    ),
-    (
+    )?;
+    check(
+        &rt,
+        rt.alloc(),
         0,
         0,
         &[
-            TWO_LEVELS,
-            FORMAT,
-            FOUR_BITS,
-            SECOND,
-            BLOCKS,
-            LISTS,
-            NO_TOOLS,
-            CANDIDATE,
-            NO_FLAGS,
-            WHOLE_VUI,
-            NO_EXTENSION,
+            two_levels(),
+            format(),
+            four_bits(),
+            second(),
+            blocks(),
+            lists(),
+            no_tools(),
+            candidate(),
+            no_flags(),
+            whole_vui(),
+            no_extension(),
         ],
-    ),
-    // Extensions of no known kind, with tails of three bits, of none, and of one.
-    (
-        1,
-        0,
-        &[
-            LAYERED,
-            OWN_FORMAT,
-            FOUR_BITS,
-            BLOCKS,
-            NO_LISTS,
-            NO_TOOLS,
-            NO_REFERENCES,
-            NO_FLAGS,
-            NO_VUI,
-            UNKNOWN,
-            TAIL,
-        ],
-    ),
-    (
-        1,
-        0,
-        &[
-            LAYERED,
-            OWN_FORMAT,
-            FOUR_BITS,
-            BLOCKS,
-            NO_LISTS,
-            NO_TOOLS,
-            NO_REFERENCES,
-            NO_FLAGS,
-            NO_VUI,
-            UNKNOWN,
-            NO_TAIL,
-        ],
-    ),
-    (
-        1,
-        0,
-        &[
-            LAYERED,
-            OWN_FORMAT,
-            FOUR_BITS,
-            BLOCKS,
-            NO_LISTS,
-            NO_TOOLS,
-            NO_REFERENCES,
-            NO_FLAGS,
-            NO_VUI,
-            BOTH_EXTENSIONS,
-            SHORT_TAIL,
-        ],
-    ),
-];
+    )?;
+    Ok(())
+}
 
+// Extensions of no known kind, with tails of three bits, of none, and of one.
 #[test]
-fn rows(rt: HostRuntime) -> Result<(), Fail> {
-    for (layer, vps_sub_layers, parts) in &ROWS {
-        assert!(rt; *vps_sub_layers <= 6);
-        check(&rt, rt.alloc(), *layer, *vps_sub_layers, parts)?;
-    }
+fn extensions_with_tails(rt: HostRuntime) -> Result<(), Fail> {
+    check(
+        &rt,
+        rt.alloc(),
+        1,
+        0,
+        &[
+            layered(),
+            own_format(),
+            four_bits(),
+            blocks(),
+            no_lists(),
+            no_tools(),
+            no_references(),
+            no_flags(),
+            no_vui(),
+            unknown(),
+            tail(),
+        ],
+    )?;
+    check(
+        &rt,
+        rt.alloc(),
+        1,
+        0,
+        &[
+            layered(),
+            own_format(),
+            four_bits(),
+            blocks(),
+            no_lists(),
+            no_tools(),
+            no_references(),
+            no_flags(),
+            no_vui(),
+            unknown(),
+            no_tail(),
+        ],
+    )?;
+    check(
+        &rt,
+        rt.alloc(),
+        1,
+        0,
+        &[
+            layered(),
+            own_format(),
+            four_bits(),
+            blocks(),
+            no_lists(),
+            no_tools(),
+            no_references(),
+            no_flags(),
+            no_vui(),
+            both_extensions(),
+            short_tail(),
+        ],
+    )?;
     Ok(())
 }
 
