@@ -195,7 +195,7 @@ def hrd(b, subs, cpbs):
 
 def hrd_sub_layers(b, subs, cpbs):
     for _ in range(subs + 1):
-        b.u(1, 1).ue(0).u(1, 0).ue(cpbs - 1)
+        b.u(1, 1).ue(0).ue(cpbs - 1)
         for _ in range(2 * cpbs):
             b.ue(0).ue(0).u(1, 0)
 
