@@ -62,7 +62,7 @@ pub fn pack<S: Source, K: Sink>(
 ///
 /// It keeps no more of the input than one piece and one unit, and takes no memory for a unit before its length is
 /// known to be within 16,777,216 bytes. Where `limit` bytes were taken and they show no refusal, one byte more is
-/// asked for.
+/// asked for. Answers the number of units.
 ///
 /// # Errors
 ///
