@@ -5,7 +5,7 @@ ghost use Rattle.mv_syntax.specs.Bits.{u_bits, byte_bits, trailing_bits};
 ghost use Rattle.mv_syntax.specs.Cursor.{place};
 ghost use Rattle.mv_syntax.specs.Ending.{tail_bits, end_bits};
 ghost use Rattle.mv_syntax.specs.inner.Ending.{read_end};
-ghost use Rattle.mv_syntax.specs.Answers.{FillsPayload};
+ghost use Rattle.mv_syntax.specs.inner.Filling.{FillsPayload};
 ghost use Rattle.mv_bits.specs.Ending.{Misses, means};
 ghost use Rattle.mv_bits.specs.inner.Tail.{tail_of, Before, IsTail, LacksOne};
 

@@ -1,6 +1,7 @@
 -- The lists of flags of profile_tier_level have a flag for each sub-layer.
 use Rattle.std.proofs.Common.{◌≡◌, ℕ, List, Bool, length, Ok}
-use Rattle.mv_syntax.specs.Table.{Valid, read}
+use Rattle.mv_syntax.specs.Table.{Valid}
+use Rattle.mv_syntax.specs.inner.Reader.{read}
 use Rattle.mv_syntax.proofs.TableLaws.{reads-of}
 use Rattle.mv_syntax.proofs.LoopLaws.{columns-lengths}
 use Rattle.mv_common.specs.ProfileTier.{sub_layer_flags, all_sub_layer_flags}

@@ -30,6 +30,3 @@ pub use vui::{Vui, VuiArgs, VuiTiming};
 pub use vui_parts::{
     AspectRatio, BitstreamRestriction, ChromaLocation, DisplayWindow, Overscan, VideoSignalType,
 };
-
-#[cfg(test)]
-mod tests;

@@ -1,6 +1,7 @@
 -- A value printed whole on a printer of its own, and appended to a writer.
 use Rattle.std.proofs.Common.{◌≡◌, Bool, List, [], ◌++◌, refl, sym, ap, ◌∙◌}
-use Rattle.mv_syntax.specs.Table.{Table, bits_of, put}
+use Rattle.mv_syntax.specs.Table.{Table, bits_of}
+use Rattle.mv_syntax.specs.inner.Writer.{put}
 use Rattle.mv_syntax.specs.Printed.{Output, bits, printed}
 use Rattle.mv_syntax.proofs.TableLaws.{put-nil}
 use Rattle.mv_syntax.proofs.PrintedLaws.{printed-bits}

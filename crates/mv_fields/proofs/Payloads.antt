@@ -2,13 +2,16 @@
 use Rattle.std.proofs.Common.{◌≡◌, ℕ, ◌-◌, ◌*◌, ◌≤◌, ◌<◌, Bool, List, [], ◌++◌, length, Option, Some, None, Result, Ok, Err, refl, inl, inr, sym, ap, ◌∙◌, arith}
 use Rattle.mv_syntax.specs.Bits.{Fault, short, breaks, byte_bits, trailing_bits}
 use Rattle.mv_syntax.specs.Cursor.{Cursor, place}
-use Rattle.mv_syntax.specs.Table.{Table, Reads, Cut, read, put}
-use Rattle.mv_syntax.specs.Payload.{size_limit, Payload, ReadsPayload, CutPayload, payload_bits, payload_lines, read_payload}
+use Rattle.mv_syntax.specs.Table.{Table, Reads, Cut}
+use Rattle.mv_syntax.specs.inner.Writer.{put}
+use Rattle.mv_syntax.specs.inner.Reader.{read}
+use Rattle.mv_syntax.specs.Payload.{size_limit, Payload, ReadsPayload, CutPayload, payload_bits, payload_lines}
+use Rattle.mv_syntax.specs.inner.PayloadReader.{read_payload}
 use Rattle.mv_syntax.specs.inner.Ending.{read_end}
 use Rattle.mv_syntax.specs.Lines.{text_of}
 use Rattle.mv_syntax.specs.Printed.{Output, bits, lines, printed}
 use Rattle.mv_syntax.specs.PrintedPayload.{printed_end}
-use Rattle.mv_syntax.specs.Answers.{FailsAs}
+use Rattle.mv_syntax.specs.inner.Filling.{FailsAs}
 use Rattle.mv_syntax.proofs.BitLaws.{length-byte_bits}
 use Rattle.mv_syntax.proofs.TableLaws.{Answered, short-neither}
 use Rattle.mv_syntax.proofs.PayloadLaws.{payload_answered, payload_over, payload_fault, payload_end, payload_end_fault}

@@ -2,9 +2,11 @@
 use Rattle.std.proofs.Common.{◌≡◌, ℕ, Bool, List, Result, Ok, Err, refl}
 use Rattle.mv_syntax.specs.Bits.{short, breaks}
 use Rattle.mv_syntax.specs.Cursor.{Cursor}
-use Rattle.mv_syntax.specs.Table.{Table, Reads, Cut, read}
+use Rattle.mv_syntax.specs.Table.{Table, Reads, Cut}
+use Rattle.mv_syntax.specs.inner.Reader.{read}
 use Rattle.mv_syntax.specs.Words.{◌under◌}
-use Rattle.mv_syntax.specs.Answers.{Answers, FailsAs}
+use Rattle.mv_syntax.specs.Answers.{Answers}
+use Rattle.mv_syntax.specs.inner.Filling.{FailsAs}
 use Rattle.mv_syntax.proofs.TableLaws.{read-reads, read-cut, neither-short, table_answered}
 use Rattle.mv_rules.specs.declared.rule.Rule.{Rule}
 use Rattle.mv_fields.specs.declared.fault.Fault.{Fault}

@@ -1,8 +1,10 @@
 -- What the calls promise that read by a table.
 use Rattle.std.specs.Prelude.{◌≡◌, ℕ, Bool, List, Result, Ok, Err, ◌⊎◌}
 use Rattle.mv_syntax.specs.Cursor.{Cursor}
-use Rattle.mv_syntax.specs.Table.{Table, read}
-use Rattle.mv_syntax.specs.Answers.{Fills, Answers}
+use Rattle.mv_syntax.specs.Table.{Table}
+use Rattle.mv_syntax.specs.inner.Reader.{read}
+use Rattle.mv_syntax.specs.Answers.{Answers}
+use Rattle.mv_syntax.specs.inner.Filling.{Fills}
 use Rattle.mv_bits.specs.Cursor.{Takes}
 use Rattle.mv_rules.specs.Rule.{rule_number}
 use Rattle.mv_rules.specs.declared.rule.Rule.{Rule}

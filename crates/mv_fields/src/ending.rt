@@ -3,7 +3,7 @@
 ghost use Rattle.std.specs.Prelude.{◌≡◌, OnOk, option_map};
 ghost use Rattle.mv_syntax.specs.Cursor.{place};
 ghost use Rattle.mv_syntax.specs.inner.Ending.{read_end};
-ghost use Rattle.mv_syntax.specs.Answers.{FillsPayload};
+ghost use Rattle.mv_syntax.specs.inner.Filling.{FillsPayload};
 ghost use Rattle.mv_fields.specs.Faults.{means};
 
 use crate::fault::Fault;

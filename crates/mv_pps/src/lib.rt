@@ -22,6 +22,3 @@ pub use pps::Pps;
 pub use quantization::PpsQuantization;
 pub use tiles::PpsTiles;
 pub use tools::PpsTools;
-
-#[cfg(test)]
-mod tests;

@@ -3,9 +3,10 @@
 ghost use Rattle.std.specs.Prelude.{◌≡◌, [], ◌++◌, IfOk, OnOk};
 ghost use Rattle.mv_syntax.specs.Bits.{byte_bits};
 ghost use Rattle.mv_syntax.specs.Lines.{text_of};
-ghost use Rattle.mv_syntax.specs.Payload.{ValidPayload, ReadsPayload, CutPayload, payload_bits, payload_lines, read_payload};
+ghost use Rattle.mv_syntax.specs.Payload.{ValidPayload, ReadsPayload, CutPayload, payload_bits, payload_lines};
+ghost use Rattle.mv_syntax.specs.inner.PayloadReader.{read_payload};
 ghost use Rattle.mv_syntax.specs.Printed.{lines};
-ghost use Rattle.mv_syntax.specs.Answers.{FillsPayload};
+ghost use Rattle.mv_syntax.specs.inner.Filling.{FillsPayload};
 ghost use Rattle.mv_rules.specs.declared.rule.Rule.TheVariants.{PpsSyntax};
 ghost use Rattle.mv_fields.specs.Faults.{means};
 ghost use Rattle.mv_fields.specs.Output.{IsText, text_in};

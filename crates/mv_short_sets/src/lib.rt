@@ -9,6 +9,3 @@ mod short_set;
 pub use delta::{Delta, Side};
 pub use laws::{delta_laws, short_set_laws};
 pub use short_set::{ShortArgs, ShortSet};
-
-#[cfg(test)]
-mod tests;

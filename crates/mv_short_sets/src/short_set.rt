@@ -1,7 +1,8 @@
 //! A short-term reference picture set: read, and printed.
 
 ghost use Rattle.std.specs.Prelude.{◌≡◌, ◌≤◌, ◌<◌, ◌+◌, ◌-◌, ◌++◌, ◌&&◌, Bool, true, not, length, nat_lt, nat_eq, codes, OnOk, OnErr, IfOk};
-ghost use Rattle.mv_syntax.specs.Table.{u, ue, named, when, Valid, bits_of, read};
+ghost use Rattle.mv_syntax.specs.Table.{u, ue, named, when, Valid, bits_of};
+ghost use Rattle.mv_syntax.specs.inner.Reader.{read};
 ghost use Rattle.mv_syntax.specs.Words.{◌unless◌, over, or_zero, coded_set};
 ghost use Rattle.mv_syntax.specs.Loops.{columns, each};
 ghost use Rattle.mv_syntax.specs.Printed.{printed};

@@ -1,7 +1,7 @@
 -- The alignment that ends a header, taken as one number.
 use Rattle.std.proofs.Common.{◌≡◌, ◌≢◌, ℕ, ◌+◌, ◌-◌, ◌*◌, ◌%◌, ◌^◌, ◌<◌, ◌≤◌, Bool, List, length, Ok, Err, ap, ◌∙◌, arith, add-one, pow-suc, pow_mono, length-append}
 use Rattle.mv_syntax.specs.Bits.{Fault, short, u_bits, take_bits, trailing_bits, to_byte_end}
-use Rattle.mv_syntax.specs.Table.{behind}
+use Rattle.mv_syntax.specs.inner.Reader.{behind}
 use Rattle.mv_syntax.proofs.BitLaws.{take_bits-printed, length-u_bits}
 use Rattle.mv_syntax.proofs.AlignLaws.{behind_u, behind_other, behind_short, trailing_one}
 

@@ -4,7 +4,8 @@ use Rattle.std.specs.Prelude.{if◌then◌else◌, nat_eq}
 use Rattle.std.specs.Option.{IfSome}
 use Rattle.std.proofs.lemmas.Bool.{ltb-false}
 use Rattle.mv_rules.specs.declared.rule.Rule.TheVariants.{SliceSyntax}
-use Rattle.mv_syntax.specs.Table.{Table, Valid, u, ue, when, Reads, bits_of, read}
+use Rattle.mv_syntax.specs.Table.{Table, Valid, u, ue, when, Reads, bits_of}
+use Rattle.mv_syntax.specs.inner.Reader.{read}
 use Rattle.mv_syntax.specs.Words.{◌!◌∶◌, over, or_zero, ◌otherwise◌, whole_bytes}
 use Rattle.mv_syntax.specs.Loops.{each}
 use Rattle.mv_syntax.proofs.SizeLaws.{AtMost, most_more, most_u, most_ue, most_se, most_named, most_refused, most_by_rule, most_then, most_when, most_shaped, most_items, most_items_after, most_each, most_whole}

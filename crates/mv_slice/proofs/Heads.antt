@@ -1,7 +1,8 @@
 -- A header at the head of a payload: how it is read, written and shown.
 use Rattle.std.proofs.Common.{◌≡◌, ℕ, ◌+◌, ◌-◌, ◌*◌, ◌/◌, ◌%◌, ◌≤◌, Bool, List, [], ◌++◌, length, None, add-zero, Err, refl, ap, ◌∙◌, arith}
 use Rattle.mv_syntax.specs.Bits.{Fault, short, breaks, trailing_bits}
-use Rattle.mv_syntax.specs.Table.{Table, Reads, Cut, bits_of, read}
+use Rattle.mv_syntax.specs.Table.{Table, Reads, Cut, bits_of}
+use Rattle.mv_syntax.specs.inner.Reader.{read}
 use Rattle.mv_syntax.specs.Words.{whole_bytes}
 use Rattle.mv_syntax.specs.Lines.{lines as lines_of, text_of}
 use Rattle.mv_syntax.specs.Printed.{Output, bits, lines, printed}

@@ -1,8 +1,9 @@
 -- Why nothing is told of a slice segment.
 use Rattle.std.proofs.Common.{◌≡◌, ◌≢◌, Bool, List, Err, refl, sym, ◌∙◌}
 use Rattle.mv_syntax.specs.Bits.{Fault, short, breaks}
-use Rattle.mv_syntax.specs.Table.{Table, Reads, read}
-use Rattle.mv_syntax.specs.Answers.{FailsAs}
+use Rattle.mv_syntax.specs.Table.{Table, Reads}
+use Rattle.mv_syntax.specs.inner.Reader.{read}
+use Rattle.mv_syntax.specs.inner.Filling.{FailsAs}
 use Rattle.mv_syntax.proofs.TableLaws.{ok_err, read-reads}
 use Rattle.mv_rules.specs.Rule.{rule_number}
 use Rattle.mv_rules.specs.declared.rule.Rule.{Rule}

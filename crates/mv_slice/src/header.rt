@@ -4,7 +4,8 @@ ghost use Rattle.std.specs.Prelude.{◌≡◌, ◌≤◌, ◌<◌, ◌*◌, ◌%
 ghost use Rattle.mv_rules.specs.declared.rule.Rule.TheVariants.{SliceSyntax};
 ghost use Rattle.mv_syntax.specs.Bits.{short, byte_bits, trailing_bits};
 ghost use Rattle.mv_syntax.specs.Cursor.{place};
-ghost use Rattle.mv_syntax.specs.Table.{Valid, Cut, bits_of, behind};
+ghost use Rattle.mv_syntax.specs.Table.{Valid, Cut, bits_of};
+ghost use Rattle.mv_syntax.specs.inner.Reader.{behind};
 ghost use Rattle.mv_syntax.specs.Lines.{lines as lines_of, text_of};
 ghost use Rattle.mv_syntax.specs.Printed.{lines};
 ghost use Rattle.mv_fields.specs.Reading.{ReadsBy, ReadsWhole};

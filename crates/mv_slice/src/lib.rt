@@ -36,6 +36,3 @@ pub use picture::{SlicePicture, SliceReferences};
 pub use prediction::SlicePrediction;
 pub use slice::{SliceFull, SliceHead};
 pub use weights::{ChromaWeight, EntryWeights, ListWeights, PredWeightTable};
-
-#[cfg(test)]
-mod tests;

@@ -1,6 +1,7 @@
 -- The short-term reference picture sets of a sequence parameter set, each behind the sets before it.
 use Rattle.std.proofs.Common.{◌≡◌, ℕ, ◌<◌, Bool, List, [], ◌∷◌, ◌++◌, length, take, Ok, sym, arith, length-take-le}
-use Rattle.mv_syntax.specs.Table.{Valid, read}
+use Rattle.mv_syntax.specs.Table.{Valid}
+use Rattle.mv_syntax.specs.inner.Reader.{read}
 use Rattle.mv_syntax.proofs.TableLaws.{reads-read}
 use Rattle.mv_syntax.proofs.LoopLaws.{items_after-length}
 use Rattle.mv_short_sets.specs.ShortSetValue.{ShortSetValue}

@@ -31,8 +31,3 @@ pub use scaling::SpsScaling;
 pub use sps::Sps;
 pub use tools::SpsTools;
 pub use vui::SpsVui;
-
-#[cfg(test)]
-mod part_tests;
-#[cfg(test)]
-mod tests;

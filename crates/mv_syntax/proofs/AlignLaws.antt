@@ -1,7 +1,9 @@
 -- Alignment bits are the bits of one number, so a call that reads them reads u(n) and compares.
 use Rattle.std.proofs.Common.{◌≡◌, ℕ, ◌+◌, ◌-◌, ◌^◌, ◌<◌, ◌≢◌, Bool, true, List, [], ◌++◌, length, Result, Ok, Err, refl, sym, ap, ◌∙◌, arith, add-one}
 use Rattle.mv_syntax.specs.Bits.{Fault, short, u_bits, take_bits, align_bits, trailing_bits, to_byte_end}
-use Rattle.mv_syntax.specs.Table.{Table, read, put, behind}
+use Rattle.mv_syntax.specs.Table.{Table}
+use Rattle.mv_syntax.specs.inner.Writer.{put}
+use Rattle.mv_syntax.specs.inner.Reader.{read, behind}
 use Rattle.mv_syntax.specs.Words.{whole_bytes}
 use Rattle.mv_syntax.proofs.BitLaws.{u_bits-one, u_bits-ones, take_bits-u_bits, take_bits-printed}
 use Rattle.mv_syntax.proofs.TableLaws.{ok_value, ok_err, behind-there, behind-found, behind-failed}

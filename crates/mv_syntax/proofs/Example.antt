@@ -1,7 +1,8 @@
 -- A small table, with what it prints, reads and shows.
 use Rattle.std.proofs.Common.{◌≡◌, ℕ, true, false, List, [], ◌∷◌, pos, Option, Some, None, Ok, Err, refl}
 use Rattle.mv_syntax.specs.Bits.{short, breaks, u_bits, take_bits}
-use Rattle.mv_syntax.specs.Table.{Table, u, named, ◌>>=◌, when, bits_of, read}
+use Rattle.mv_syntax.specs.Table.{Table, u, named, ◌>>=◌, when, bits_of}
+use Rattle.mv_syntax.specs.inner.Reader.{read}
 use Rattle.mv_syntax.specs.Words.{◌>>◌, ◌!◌∶◌, over, is_set, ◌⊗◌, ◌▸◌}
 use Rattle.mv_syntax.specs.Loops.{items}
 use Rattle.mv_rules.specs.declared.rule.Rule.TheVariants.{VpsLimit}

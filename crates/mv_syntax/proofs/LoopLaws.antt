@@ -3,8 +3,10 @@ use Rattle.std.proofs.Common.{◌≡◌, ℕ, zero, suc, ◌+◌, ◌-◌, ◌<�
 use Rattle.std.proofs.lemmas.List.{length-take-le}
 use Rattle.mv_syntax.specs.Bits.{Fault, kept}
 use Rattle.mv_syntax.specs.Bits as bits
-use Rattle.mv_syntax.specs.Table.{Table, read, read_each, Valid, EachValid}
-use Rattle.mv_syntax.specs.Loops.{unzipped, both_lists, items, items_after, items_numbered, columns, columns_after, turns_of_items, turns_of_columns, rest_of_items, rest_of_items_after, rest_of_columns, rest_of_columns_after}
+use Rattle.mv_syntax.specs.Table.{Table, Valid, EachValid}
+use Rattle.mv_syntax.specs.inner.Reader.{read, read_each}
+use Rattle.mv_syntax.specs.Loops.{unzipped, both_lists, items, items_after, items_numbered, columns, columns_after}
+use Rattle.mv_syntax.specs.inner.Turns.{turns_of_items, turns_of_columns, rest_of_items, rest_of_items_after, rest_of_columns, rest_of_columns_after}
 
 -- ---- the loop as a whole is what its turns read
 pub next_index : {A : Type 0} (first i : ℕ) (before : List A) (x : A) → i ≡ first + length before → i + 1 ≡ first + length (before ++ x ∷ [])

@@ -3,10 +3,13 @@ use Rattle.std.proofs.Common.{◌≡◌, ℕ, zero, suc, ◌+◌, ◌-◌, ◌�
 use Rattle.mv_rules.specs.Rule.{rule_number}
 use Rattle.mv_syntax.specs.Bits.{Fault, short, breaks, align_bits, trailing_bits, has_one, to_byte_end, more_data, take_bits, u_bits}
 use Rattle.mv_syntax.specs.Bits as bits
-use Rattle.mv_syntax.specs.Table.{Table, Valid, bits_of, Cut, read, put}
+use Rattle.mv_syntax.specs.Table.{Table, Valid, bits_of, Cut}
+use Rattle.mv_syntax.specs.inner.Writer.{put}
+use Rattle.mv_syntax.specs.inner.Reader.{read}
 use Rattle.mv_syntax.specs.Ending.{tail_bits, end_bits}
 use Rattle.mv_syntax.specs.inner.Ending.{before_last_one, take_tail, same_bits, read_end}
-use Rattle.mv_syntax.specs.Payload.{size_limit, Payload, payload_bits, ReadsPayload, CutPayload, read_payload, PayloadExactlyOne, PayloadRoundTrips}
+use Rattle.mv_syntax.specs.Payload.{size_limit, Payload, payload_bits, ReadsPayload, CutPayload, PayloadExactlyOne, PayloadRoundTrips}
+use Rattle.mv_syntax.specs.inner.PayloadReader.{read_payload}
 use Rattle.mv_syntax.proofs.TableLaws.{behind-count, ok_value, bind-ok, bind-err, read-ok, reads-read, read-cut, cut-read, put-nil, ok_err, err_fault, breaks-same, short-breaks, Answered, one_of_three}
 
 -- ---- the last set bit

@@ -1,12 +1,13 @@
 -- Printing into bits is putting the bits of a value behind; printing into lines is adding its lines in turn.
-use Rattle.std.proofs.Common.{◌≡◌, ℕ, ◌-◌, Bool, List, [], ◌∷◌, ◌++◌, length, take, ℤ, pos, Option, Some, None, refl, sym, ap, ◌∙◌, append_assoc, append-nil, codes}
+use Rattle.std.proofs.Common.{◌≡◌, ℕ, Bool, List, [], ◌∷◌, ◌++◌, length, pos, Option, Some, None, refl, sym, ap, ◌∙◌, append_assoc, append-nil, codes}
 use Rattle.std.proofs.Math.Seq.{take-append_seam}
 use Prim.Native.String.{String}
-use Rattle.mv_syntax.specs.Table.{Table, u, ue, se, named, refused, checked, ◌>>=◌, when, repeat, by_rule, padded, shaped, in_turn, bits_of, put_each, put}
+use Rattle.mv_syntax.specs.Table.{Table, u, ue, se, named, refused, checked, ◌>>=◌, when, repeat, by_rule, padded, shaped, in_turn}
+use Rattle.mv_syntax.specs.inner.Writer.{put_each, put}
 use Rattle.mv_syntax.specs.Payload.{Payload, payload_bits, tail_line, payload_lines}
 use Rattle.mv_syntax.specs.PrintedPayload.{printed_end, printed_payload}
 use Rattle.mv_syntax.specs.Lines.{Line, lines_in, lines as lines_of, bracket, brackets, line_text, text_of}
-use Rattle.mv_syntax.specs.Printed.{Output, bits, lines, with_line, opened, closed, in_bracket, print_each, printed_in, printed}
+use Rattle.mv_syntax.specs.Printed.{Output, bits, lines, with_line, in_bracket, print_each, printed_in}
 use Rattle.mv_syntax.proofs.TableLaws.{put-is}
 
 -- ---- bits

@@ -1,9 +1,9 @@
 -- How many bits a table prints at most for a valid value.
-use Rattle.std.proofs.Common.{◌≡◌, ℕ, zero, suc, ◌+◌, ◌-◌, ◌*◌, ◌%◌, ◌^◌, ◌<◌, ◌≤◌, Bool, true, false, List, [], ◌∷◌, ◌++◌, length, replicate, Option, Some, None, refl, sym, ap, subst, ◌∙◌, arith, append-nil, length-append}
+use Rattle.std.proofs.Common.{◌≡◌, ℕ, suc, ◌+◌, ◌-◌, ◌*◌, ◌%◌, ◌^◌, ◌<◌, ◌≤◌, Bool, true, false, List, [], ◌∷◌, ◌++◌, length, replicate, Option, Some, None, ap, arith, length-append}
 use Rattle.std.proofs.lemmas.List.{length-replicate}
 use Prim.Native.String.{String}
 use Rattle.mv_syntax.specs.Bits.{u_bits, ue_zeros, ue_bits, se_code, se_bits, trailing_bits, align_bits}
-use Rattle.mv_syntax.specs.Table.{Table, u, ue, se, named, refused, ◌>>=◌, when, repeat, by_rule, padded, shaped, Valid, EachValid, in_turn, bits_of}
+use Rattle.mv_syntax.specs.Table.{Table, u, ue, se, named, refused, ◌>>=◌, when, repeat, by_rule, shaped, Valid, EachValid, in_turn, bits_of}
 use Rattle.mv_syntax.specs.Words.{whole_bytes}
 use Rattle.mv_syntax.specs.Loops.{items, items_after, columns, each}
 use Rattle.mv_syntax.proofs.BitLaws.{length-u_bits, ue_zeros-range}

@@ -3,7 +3,9 @@
 use Rattle.std.proofs.Common.{◌≡◌, ℕ, zero, suc, ◌-◌, ◌^◌, ◌<◌, Bool, true, false, List, [], ◌∷◌, ◌++◌, length, Option, Some, None, Result, Ok, Err, ◌⊎◌, if◌then◌else◌, refl, sym, ap, ◌∙◌, subst, inl, inr, append_assoc, append-nil, arith, length-append}
 use Rattle.mv_syntax.specs.Bits.{Fault, short, breaks, kept, u_bits, take_bits, ue_bits, take_ue, se_code, se_bits, take_se}
 use Rattle.mv_syntax.specs.Bits as bits
-use Rattle.mv_syntax.specs.Table.{Table, u, ue, se, named, refused, checked, ◌>>=◌, when, repeat, by_rule, padded, shaped, in_turn, EachValid, bits_of, Valid, Reads, EachCut, Cut, counted_as, read_each, behind, read, put_each, put}
+use Rattle.mv_syntax.specs.Table.{Table, u, ue, se, named, refused, checked, ◌>>=◌, when, repeat, by_rule, padded, shaped, in_turn, EachValid, bits_of, Valid, Reads, EachCut, Cut}
+use Rattle.mv_syntax.specs.inner.Writer.{put_each, put}
+use Rattle.mv_syntax.specs.inner.Reader.{counted_as, read_each, behind, read}
 use Rattle.mv_syntax.specs.Laws.{ExactlyOneOf, ReadsAt, ExactlyOne, RoundTrips, Splits, SplitsAs, Prefixes}
 use Rattle.mv_syntax.proofs.BitLaws.{take_bits-u_bits, take_bits-printed, take_bits-failed, take_ue-ue_bits, take_ue-printed, take_ue-failed, take_se-se_bits, take_se-printed, take_se-failed}
 
@@ -435,7 +437,17 @@ pub exactly_one : {A : Type 0} (t : Table A) (b : List Bool) → ExactlyOne t b
 exactly_one t b = one_of_three (read t b) (ReadsAt t b) (Cut t b) (table_answered t b)
 
 pub round_trips : {A : Type 0} (t : Table A) → RoundTrips t
-round_trips t = record { written_reads = λ v rest h. read-ok t v rest h; read_writes = λ b v rest e. reads-read t b v rest e }
+round_trips {A} t = record {
+  written_reads = λ v rest h. record { valid = h; bits = refl };
+  reads_alone = λ v w rest more h there. alone v w rest more (record { valid = h; bits = refl }) there;
+  not_cut = λ v rest r h cut. (exactly_one t (bits_of t v ++ rest)).not_both (v, rest) r (record { valid = h; bits = refl }) cut;
+  read_writes = λ b v rest h. (h.valid, h.bits);
+}
+  where
+    alone : (v w : A) (rest more : List Bool) → Reads t (bits_of t v ++ rest) v rest → Reads t (bits_of t v ++ rest) w more → (w ≡ v) × (more ≡ rest)
+    alone v w rest more own there =
+        let same : (w, more) ≡ (v, rest) = (exactly_one t (bits_of t v ++ rest)).one_value (w, more) (v, rest) there own in
+        (ap (λ x. x.0) same, ap (λ x. x.1) same)
 
 -- ---- the split between two fields
 pub splits : {A B : Type 0} (t : Table A) (f : A → Table B) (b : List Bool) → Splits t f b

@@ -1,6 +1,6 @@
 -- What holds of every table: of three answers exactly one, both round trips, and the split between two fields.
-use Rattle.std.specs.Prelude.{◌≡◌, ℕ, List, ◌++◌, ◌⊎◌, ◌↔◌, Bool, Ok}
-use Rattle.mv_syntax.specs.Table.{Table, ◌>>=◌, bits_of, Valid, Reads, Cut, read}
+use Rattle.std.specs.Prelude.{◌≡◌, ℕ, List, ◌++◌, ◌⊎◌, ◌↔◌, Bool}
+use Rattle.mv_syntax.specs.Table.{Table, ◌>>=◌, bits_of, Valid, Reads, Cut}
 
 -- Exactly one of three holds: one value reads, one rule cuts, or neither, which is the syntax rule.
 pub record ExactlyOneOf {V : Type 0} (reads : V → Type 0) (cut : ℕ → Type 0) : Type 0 where
@@ -17,10 +17,13 @@ ReadsAt t b x = Reads t b x.0 x.1
 abbrev pub ExactlyOne : {A : Type 0} → Table A → List Bool → Type 0
 ExactlyOne {A} t b = ExactlyOneOf {V = A × List Bool} (ReadsAt t b) (Cut t b)
 
--- What was written reads back before any rest, and what reads writes back the same bits.
+-- What was written reads back before any rest, as that value and no other, and no rule cuts it; what reads is what is written of the
+-- value.
 pub record RoundTrips {A : Type 0} (t : Table A) : Type 0 where
-  pub written_reads : (v : A) (rest : List Bool) → Valid t v → read t (bits_of t v ++ rest) ≡ Ok (v, rest)
-  pub read_writes : (b : List Bool) (v : A) (rest : List Bool) → read t b ≡ Ok (v, rest) → Valid t v × (b ≡ bits_of t v ++ rest)
+  pub written_reads : (v : A) (rest : List Bool) → Valid t v → Reads t (bits_of t v ++ rest) v rest
+  pub reads_alone : (v w : A) (rest more : List Bool) → Valid t v → Reads t (bits_of t v ++ rest) w more → (w ≡ v) × (more ≡ rest)
+  pub not_cut : (v : A) (rest : List Bool) (r : ℕ) → Valid t v → ¬ Cut t (bits_of t v ++ rest) r
+  pub read_writes : (b : List Bool) (v : A) (rest : List Bool) → Reads t b v rest → Valid t v × (b ≡ bits_of t v ++ rest)
 
 -- A table split between two of its fields: a value reads in the whole exactly where its first part reads and its second part
 -- reads what follows; a rule cuts the whole exactly where it cuts the first part, or the first part reads and the rule cuts

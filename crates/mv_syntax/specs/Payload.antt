@@ -1,15 +1,12 @@
 -- Whole payloads: the size limit, a table, an opaque tail where the table's value says so, and the trailing bits.
-use Rattle.std.specs.Prelude.{◌≡◌, ℕ, ◌-◌, ◌*◌, ◌≤◌, ◌<◌, Bool, List, [], ◌∷◌, ◌++◌, length, pos, Option, Some, None, is_some, Result, Ok, Err, ◌⊎◌, if◌then◌else◌, nat_lt}
-use Rattle.mv_syntax.specs.Bits.{Fault, short, breaks, trailing_bits}
-use Rattle.mv_syntax.specs.Bits as bits
+use Rattle.std.specs.Prelude.{◌≡◌, ℕ, ◌*◌, ◌≤◌, ◌<◌, Bool, List, [], ◌∷◌, ◌++◌, length, pos, Option, Some, None, is_some, ◌⊎◌}
 use Rattle.mv_rules.specs.Rule.{rule_number}
 use Rattle.mv_rules.specs.declared.rule.Rule.{Rule}
-use Rattle.mv_syntax.specs.Table.{Table, Valid, bits_of, Cut, read}
+use Rattle.mv_syntax.specs.Table.{Table, Valid, bits_of, Cut}
 use Rattle.mv_syntax.specs.Laws.{ExactlyOneOf}
 use Rattle.mv_syntax.specs.Lines.{Line, lines}
 pub use Rattle.mv_syntax.specs.Ending.{tail_bits}
 use Rattle.mv_syntax.specs.Ending.{end_bits}
-use Rattle.mv_syntax.specs.inner.Ending.{read_end}
 
 -- The greatest payload of a parameter set, in bits: 65,536 bytes (this project's profile).
 abbrev pub size_limit : ℕ
@@ -41,12 +38,6 @@ pub record ReadsPayload {A : Type 0} (p : Payload A) (b : List Bool) (v : A × O
 -- A rule cuts a payload: its size breaks the size rule, or it is not too long and the rule cuts its fields.
 abbrev pub CutPayload : {A : Type 0} → Payload A → List Bool → ℕ → Type 0
 CutPayload p b r = ((size_limit < length b) × (r ≡ rule_number p.size_rule)) ⊎ ((length b ≤ size_limit) × Cut p.fields b r)
-
--- The reader of payloads on lists of bits.
-unfoldable pub read_payload : {A : Type 0} → Payload A → List Bool → Result (A × Option (List Bool)) Fault
-read_payload p b =
-    if nat_lt size_limit (length b) then Err (breaks (rule_number p.size_rule))
-    else bits.◌>>=◌ (read p.fields b) (λ x. bits.◌>>=◌ (read_end (p.has_tail x.0) (length b - length x.1) x.1) (λ tail. Ok (x.0, tail)))
 
 -- Of a payload exactly one of three holds: a value reads, a rule cuts, or neither, which is the syntax rule.
 abbrev pub PayloadExactlyOne : {A : Type 0} → Payload A → List Bool → Type 0

@@ -1,9 +1,8 @@
--- Syntax tables as values: a table says what is printed for a value, which values are valid, what reads, which rule cuts,
--- and the reader on lists of bits. Each of these is a recursion on the table (clause 7.3 and annex F.7.3 of H.265).
-use Rattle.std.specs.Prelude.{◌≡◌, ℕ, zero, suc, ◌-◌, ◌^◌, ◌<◌, Bool, true, false, List, [], ◌∷◌, ◌++◌, length, ℤ, Option, Some, None, Result, Ok, Err, ◌⊎◌, if◌then◌else◌}
+-- Syntax tables as values: a table says what is printed for a value, which values are valid, what reads and which rule cuts.
+-- Each of these is a recursion on the table (clause 7.3 and annex F.7.3 of H.265).
+use Rattle.std.specs.Prelude.{◌≡◌, ℕ, zero, suc, ◌-◌, ◌^◌, ◌<◌, Bool, true, false, List, [], ◌∷◌, ◌++◌, length, ℤ, Option, Some, None, ◌⊎◌}
 use Prim.Native.String.{String}
-use Rattle.mv_syntax.specs.Bits.{Fault, short, breaks, kept, u_bits, take_bits, ue_bits, take_ue, se_code, se_bits, take_se}
-use Rattle.mv_syntax.specs.Bits as bits
+use Rattle.mv_syntax.specs.Bits.{u_bits, ue_bits, se_code, se_bits}
 
 infixl 10 ◌>>=◌
 -- A table of coded fields whose value is an A.
@@ -99,61 +98,3 @@ Cut (repeat index n t) b r = EachCut (λ before c. Cut (t before) c r) (λ befor
 Cut (by_rule s t) b r = (r ≡ s) × ((q : ℕ) × Cut t b q)
 Cut (padded pad t) b r = Cut t b r
 Cut (shaped to from same t) b r = Cut t b r
-
--- The same answer, where a broken rule counts as rule r.
-abbrev pub counted_as : {A : Type 0} → ℕ → Result A Fault → Result A Fault
-counted_as r (Ok x) = Ok x
-counted_as r (Err short) = Err short
-counted_as r (Err (breaks s)) = Err (breaks r)
-
--- A loop of n turns, with the items so far.
-abbrev pub read_each : {A : Type 0} → (List A → List Bool → Result (A × List Bool) Fault) → ℕ → List A → List Bool → Result (List A × List Bool) Fault
-read_each one zero before b = Ok (before, b)
-read_each one (suc n) before b = bits.◌>>=◌ (one before b) (λ x. read_each one n (before ++ x.0 ∷ []) x.1)
-
--- The rest of b, where b begins with these bits.
-abbrev pub behind : List Bool → List Bool → Result (List Bool) Fault
-behind [] b = Ok b
-behind (x ∷ xs) [] = Err short
-behind (true ∷ xs) (true ∷ b) = behind xs b
-behind (true ∷ xs) (false ∷ b) = Err short
-behind (false ∷ xs) (true ∷ b) = Err short
-behind (false ∷ xs) (false ∷ b) = behind xs b
-
--- The reader on lists of bits: the value and the rest, the first broken rule, or short.
-abbrev pub read : {A : Type 0} → Table A → List Bool → Result (A × List Bool) Fault
-read (u n) b = take_bits n 0 b
-read ue b = take_ue b
-read se b = take_se b
-read (named name t) b = read t b
-read (refused r bad t) b = bits.◌>>=◌ (read t b) (λ x. if bad x.0 then Err (breaks r) else Ok x)
-read (checked r bad t) b = if bad then Err (breaks r) else read t b
-read (t >>= f) b = bits.◌>>=◌ (read t b) (λ x. kept (λ y. (x.0, y)) (read (f x.0) x.1))
-read (when true t) b = kept Some (read t b)
-read (when false t) b = Ok (None, b)
-read (repeat index n t) b = read_each (λ before c. read (t before) c) n [] b
-read (by_rule r t) b = counted_as r (read t b)
-read (padded pad t) b =
-    bits.◌>>=◌ (read t b) (λ x. bits.◌>>=◌ (behind (pad x.0 (length b - length x.1)) x.1) (λ rest. Ok (x.0, rest)))
-read (shaped to from same t) b = kept to (read t b)
-
--- The items of a list written in turn.
-abbrev pub put_each : {A : Type 0} → (List A → A → List Bool → List Bool) → List A → List A → List Bool → List Bool
-put_each one before [] out = out
-put_each one before (v ∷ vs) out = put_each one (before ++ v ∷ []) vs (one before v out)
-
--- What was written with the bits of a value behind it, field by field.
-abbrev pub put : {A : Type 0} → Table A → A → List Bool → List Bool
-put (u n) v out = out ++ u_bits n v
-put ue v out = out ++ ue_bits v
-put se v out = out ++ se_bits v
-put (named name t) v out = put t v out
-put (refused r bad t) v out = put t v out
-put (checked r bad t) v out = put t v out
-put (t >>= f) v out = put (f v.0) v.1 (put t v.0 out)
-put (when c t) (Some v) out = put t v out
-put (when c t) None out = out
-put (repeat index n t) vs out = put_each (λ before v c. put (t before) v c) [] vs out
-put (by_rule r t) v out = put t v out
-put (padded pad t) v out = put t v out ++ pad v (length (put t v out) - length out)
-put (shaped to from same t) v out = put t (from v) out

@@ -4,9 +4,11 @@ use Rattle.std.proofs.Math.Pow.{pow-sub-lt}
 use Rattle.std.proofs.lemmas.Nat.{one_shl}
 use Rattle.mv_syntax.specs.Bits.{Fault, short, take_bits, align_bits, to_byte_end, u_bits}
 use Rattle.mv_syntax.specs.Cursor.{Cursor, place}
-use Rattle.mv_syntax.specs.Table.{Valid, read, put, behind}
+use Rattle.mv_syntax.specs.Table.{Valid}
+use Rattle.mv_syntax.specs.inner.Writer.{put}
+use Rattle.mv_syntax.specs.inner.Reader.{read, behind}
 use Rattle.mv_syntax.specs.Words.{is_set}
-use Rattle.mv_syntax.specs.Answers.{FailsAs}
+use Rattle.mv_syntax.specs.inner.Filling.{FailsAs}
 use Rattle.mv_syntax.proofs.AlignLaws.{behind_u, behind_other, behind_short, align_ones}
 use Rattle.mv_syntax.specs.Printed.{Output, bits, lines, printed}
 use Rattle.mv_syntax.proofs.PrintedLaws.{printed-bits, printed-text}

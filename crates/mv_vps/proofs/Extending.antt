@@ -1,6 +1,7 @@
 -- What an extension takes from the fields before it.
 use Rattle.std.proofs.Common.{◌≡◌, ℕ, ◌+◌, ◌-◌, ◌<◌, ◌≤◌, Bool, false, List, Ok, arith, nat_eq, nat_lt}
-use Rattle.mv_syntax.specs.Table.{Valid, read}
+use Rattle.mv_syntax.specs.Table.{Valid}
+use Rattle.mv_syntax.specs.inner.Reader.{read}
 use Rattle.mv_syntax.proofs.TableLaws.{reads-of}
 use Rattle.mv_vpsext.specs.Args.{AreVpsArgs}
 use Rattle.mv_vps.specs.Opening.{VpsOpeningValue, opening}

@@ -11,12 +11,12 @@ use Rattle.mv_syntax.proofs.LoopLaws.{items-length}
 use Rattle.mv_vpsext.specs.Args.{VpsArgsValue, AreVpsArgs, layer_set, layer_sets}
 use Rattle.mv_vpsext.specs.VpsExt.{VpsExtValue, ext_layers, vps_extension}
 use Rattle.mv_layers.specs.LayerInfos.{LayerInfoValue, layer_info, layer_infos, is_layer, layer_index}
-use Rattle.mv_vpsext.specs.DpbSizes.{DpbSetValue}
-use Rattle.mv_vpsext.specs.declared.dimensions.VpsLayer.{VpsLayer}
-use Rattle.mv_vpsext.specs.Layers.{nuh_layer_id, coded_layers, layers_described}
+use Rattle.mv_vpssets.specs.DpbSizes.{DpbSetValue}
+use Rattle.mv_vpslayers.specs.declared.dimensions.VpsLayer.{VpsLayer}
+use Rattle.mv_vpslayers.specs.Layers.{nuh_layer_id, coded_layers, layers_described}
 use Rattle.mv_vpsext.specs.Formats.{formats}
-use Rattle.mv_vpsext.specs.OutputSets.{VpsOutputSetsValue, past_output_sets, output_layer_sets, output_sets}
-use Rattle.mv_vpsext.specs.Sets.{coded_set, coded_sets, all_sets}
+use Rattle.mv_vpssets.specs.OutputSets.{VpsOutputSetsValue, past_output_sets, output_layer_sets, output_sets}
+use Rattle.mv_vpssets.specs.Sets.{coded_set, coded_sets, all_sets}
 use Rattle.mv_vpsext.specs.Derived.{numbered_ols, all_ols, derived}
 use Rattle.mv_vps.specs.Base.{aligned_base, args_of}
 use Rattle.mv_vps.specs.Vps.{VpsValue, vps_fields, described, WholeVps, ValidVps}

@@ -3,10 +3,12 @@ use Rattle.std.proofs.Common.{◌≡◌, ℕ, ◌+◌, ◌<◌, ◌≤◌, Bool,
 use Rattle.std.proofs.lemmas.List.Sums.{fold_push, fold_more}
 use Rattle.mv_syntax.specs.Bits.{Fault}
 use Rattle.mv_syntax.specs.Bits as bits
-use Rattle.mv_syntax.specs.Table.{Valid, read}
+use Rattle.mv_syntax.specs.Table.{Valid}
+use Rattle.mv_syntax.specs.inner.Reader.{read}
 use Rattle.mv_syntax.specs.Printed.{Output, depth, opened, closed, printed}
-use Rattle.mv_syntax.specs.Loops.{items_after, rest_of_items_after}
-use Rattle.mv_syntax.specs.Answers.{FailsAs}
+use Rattle.mv_syntax.specs.Loops.{items_after}
+use Rattle.mv_syntax.specs.inner.Turns.{rest_of_items_after}
+use Rattle.mv_syntax.specs.inner.Filling.{FailsAs}
 use Rattle.mv_syntax.proofs.LoopLaws.{items_after_begin, items_after_turn, items_after_done, items_after-length, items_after-valid}
 use Rattle.mv_syntax.proofs.PrintingLoops.{print_items_after_begin, print_items_after_step, print_items_after_done}
 use Rattle.mv_common.specs.declared.hrd_common.HrdFlags.{HrdFlags}

@@ -1,7 +1,8 @@
 ghost use Rattle.std.specs.Prelude.{◌≡◌, ◌≤◌, ◌<◌, ◌^◌, [], true, length, Ok, Err, OnOk, MatchResult, ◌⊎◌};
 ghost use Rattle.mv_syntax.specs.Bits.{align_bits, short};
 ghost use Rattle.mv_syntax.specs.Cursor.{place};
-ghost use Rattle.mv_syntax.specs.Table.{Valid, behind};
+ghost use Rattle.mv_syntax.specs.Table.{Valid};
+ghost use Rattle.mv_syntax.specs.inner.Reader.{behind};
 ghost use Rattle.mv_syntax.specs.Printed.{bits, printed};
 ghost use Rattle.mv_fields.specs.Output.{IsText};
 ghost use Rattle.mv_fields.specs.Reading.{ReadsBy};

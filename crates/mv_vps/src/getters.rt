@@ -16,7 +16,8 @@ use mv_common::Format;
 use mv_layers::{
     LayerInfo, Ols, layer_index, layer_named, poc_lsb_not_present_at, rep_format_at, sub_layers_at,
 };
-use mv_vpsext::{LayerMaxTids, RepFormat, VpsExt};
+use mv_vpsext::{RepFormat, VpsExt};
+use mv_vpslayers::LayerMaxTids;
 
 fn count_of(sets: &[Ols]) -> u32
     requires { length sets.now ≤ 1024 }

@@ -24,8 +24,3 @@ pub use opening::VpsOpening;
 pub use payload::{read_vps, show_vps, write_vps};
 pub use timing::VpsTiming;
 pub use vps::Vps;
-
-#[cfg(test)]
-mod field_tests;
-#[cfg(test)]
-mod tests;

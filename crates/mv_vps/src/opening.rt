@@ -5,11 +5,11 @@ ghost use Rattle.mv_fields.specs.Reading.{ReadsBy};
 ghost use Rattle.mv_vps.specs.Opening.{opening};
 
 use crate::fields::{base_flag, u8_except};
-use crate::shared::{print_profile_tier, profile_tier_of};
 use mv_bits::BitReader;
 use mv_common::ProfileTier;
 use mv_fields::{Fault, Printer, u8_of, u16_of};
 use mv_rules::Rule;
+use mv_vpslayers::{print_profile_tier, profile_tier_of};
 use std::alloc::{AllocError, Global};
 use std::marker::Model;
 
@@ -55,7 +55,7 @@ pub(crate) fn opening_of(alloc: Global, bits: &mut BitReader) -> Result<VpsOpeni
     let vps_max_sub_layers_minus1 = u8_except(bits, 3, 7)?;
     let vps_temporal_id_nesting_flag = u8_of(bits, 1)?;
     let vps_reserved_0xffff_16bits = u16_of(bits, 16)?;
-    let profile_tier_level = profile_tier_of(alloc, bits, vps_max_sub_layers_minus1)?;
+    let profile_tier_level = profile_tier_of(alloc, bits, true, vps_max_sub_layers_minus1)?;
     Ok(VpsOpening {
         vps_video_parameter_set_id,
         vps_base_layer_internal_flag,
@@ -98,6 +98,11 @@ pub(crate) fn print_opening(out: &mut Printer, v: &VpsOpening) -> Result<(), All
         16,
         v.vps_reserved_0xffff_16bits,
     )?;
-    print_profile_tier(out, &v.profile_tier_level, v.vps_max_sub_layers_minus1)?;
+    print_profile_tier(
+        out,
+        &v.profile_tier_level,
+        true,
+        v.vps_max_sub_layers_minus1,
+    )?;
     Ok(())
 }

@@ -1,53 +1,20 @@
 //! The structures that a video parameter set shares with other headers, whose limits break its limit rule.
 
-ghost use Rattle.std.specs.Prelude.{◌≡◌, ◌≤◌, true, OnOk};
+ghost use Rattle.std.specs.Prelude.{◌≡◌, ◌≤◌, OnOk};
 ghost use Rattle.mv_syntax.specs.Table.{Valid};
 ghost use Rattle.mv_syntax.specs.Words.{◌under◌};
 ghost use Rattle.mv_syntax.specs.Printed.{printed};
 ghost use Rattle.mv_fields.specs.Reading.{ReadsBy};
 ghost use Rattle.mv_rules.specs.declared.rule.Rule.TheVariants.{VpsLimit};
-ghost use Rattle.mv_common.specs.ProfileTier.{profile_tier_level};
 ghost use Rattle.mv_common.specs.declared.sub_layer_ordering.ParameterSet.TheVariants.{Video};
 ghost use Rattle.mv_common.specs.SubLayerOrdering.{sub_layer_ordering};
 ghost use Rattle.mv_common.specs.Hrd.{hrd_parameters};
 
 use mv_bits::BitReader;
-use mv_common::{Hrd, HrdArgs, HrdFlags, ParameterSet, ProfileArgs, ProfileTier, SubLayerOrdering};
+use mv_common::{Hrd, HrdArgs, HrdFlags, ParameterSet, SubLayerOrdering};
 use mv_fields::{Fault, Printer, under};
 use mv_rules::Rule;
 use std::alloc::{AllocError, Global};
-
-#[tactic(auto, using(mv_fields::proofs::Shared::shared_steps))]
-pub(crate) fn profile_tier_of(
-    alloc: Global,
-    bits: &mut BitReader,
-    subs: u8,
-) -> Result<ProfileTier, Fault<Rule>>
-    requires { subs ≤ 6 }
-    ensures { ReadsBy (profile_tier_level true subs under VpsLimit) bits.old bits.new result }
-{
-    let args = ProfileArgs {
-        present: true,
-        subs,
-    };
-    under(Rule::VpsLimit, ProfileTier::read(alloc, bits, &args))
-}
-
-pub(crate) fn print_profile_tier(
-    out: &mut Printer,
-    v: &ProfileTier,
-    subs: u8,
-) -> Result<(), AllocError>
-    requires subs { subs ≤ 6 }
-    requires valid { Valid (profile_tier_level true subs under VpsLimit) v.now }
-    ensures { OnOk result (out.new ≡ printed (profile_tier_level true subs under VpsLimit) v.now out.old) }
-{
-    let args = ProfileArgs {
-        present: true,
-        subs,
-    };
-    v.print(out, &args)
-}
 
 #[tactic(auto, using(mv_fields::proofs::Shared::shared_steps))]
 pub(crate) fn ordering_of(

@@ -2,8 +2,9 @@
 use Rattle.std.proofs.Common.{◌≡◌, ℕ, ◌≤◌, Bool, List, get_or, Option, Some, None, Result, Ok, Err, IsErrAnd, inl, inr, refl, subst, sym}
 use Rattle.mv_syntax.specs.Bits.{Fault}
 use Rattle.mv_syntax.specs.Cursor.{Cursor}
-use Rattle.mv_syntax.specs.Table.{Table, Valid, Reads, Cut, read}
-use Rattle.mv_syntax.specs.Answers.{FailsAs, Fills}
+use Rattle.mv_syntax.specs.Table.{Table, Valid, Reads, Cut}
+use Rattle.mv_syntax.specs.inner.Reader.{read}
+use Rattle.mv_syntax.specs.inner.Filling.{FailsAs, Fills}
 use Rattle.mv_syntax.proofs.TableLaws.{reads-read, cut-read, short-neither, table_answered}
 use Rattle.mv_rules.specs.Rule.{rule_number}
 use Rattle.mv_rules.specs.declared.rule.Rule.{Rule}
@@ -14,8 +15,8 @@ use Rattle.mv_fields.specs.Reading.{ReadsWhole}
 use Rattle.mv_layers.specs.LayerInfos.{LayerInfoValue}
 use Rattle.mv_layers.specs.OutputLayers.{OlsLayers}
 use Rattle.mv_vpsext.specs.Args.{VpsArgsValue}
-use Rattle.mv_vpsext.specs.Dependencies.{VpsDependenciesValue}
-use Rattle.mv_vpsext.specs.DpbSizes.{DpbSetValue}
+use Rattle.mv_vpslayers.specs.Dependencies.{VpsDependenciesValue}
+use Rattle.mv_vpssets.specs.DpbSizes.{DpbSetValue}
 use Rattle.mv_vpsext.specs.VpsExt.{VpsExtValue, dpb_sizes, vps_extension}
 use Rattle.mv_vpsext.specs.Derived.{no_dpb, reorder_pics}
 use Rattle.mv_vpsext.proofs.Reordering.{reorder_within}

@@ -15,14 +15,14 @@ use Rattle.mv_layers.specs.OutputLayers.{layer_set_of}
 use Rattle.mv_layers.specs.Derived.{ols_value, IsOrderlySet, IsOrderly}
 use Rattle.mv_layers.proofs.LayerLaws.{ids_rise, orderly_layers}
 use Rattle.mv_layers.proofs.SetLaws.{orderly_sets}
-use Rattle.mv_vpsext.specs.declared.dimensions.VpsLayer.{VpsLayer}
+use Rattle.mv_vpslayers.specs.declared.dimensions.VpsLayer.{VpsLayer}
 use Rattle.mv_vpsext.specs.Args.{VpsArgsValue}
-use Rattle.mv_vpsext.specs.Layers.{plain_layer, nuh_layer_id, coded_layers, layers_described}
-use Rattle.mv_vpsext.specs.Dimensions.{VpsDimensionsValue, no_layer_id, vps_layer, vps_layers, dimensions}
-use Rattle.mv_vpsext.specs.Dependencies.{VpsDependenciesValue, added_layer_sets, dependencies}
-use Rattle.mv_vpsext.specs.OutputSets.{VpsOutputSetsValue}
-use Rattle.mv_vpsext.specs.Sets.{base_set, coded_set, coded_sets, all_sets}
-use Rattle.mv_vpsext.specs.DpbSizes.{DpbSetValue}
+use Rattle.mv_vpslayers.specs.Layers.{plain_layer, nuh_layer_id, coded_layers, layers_described}
+use Rattle.mv_vpslayers.specs.Dimensions.{VpsDimensionsValue, no_layer_id, vps_layer, vps_layers, dimensions}
+use Rattle.mv_vpslayers.specs.Dependencies.{VpsDependenciesValue, added_layer_sets, dependencies}
+use Rattle.mv_vpssets.specs.OutputSets.{VpsOutputSetsValue}
+use Rattle.mv_vpssets.specs.Sets.{base_set, coded_set, coded_sets, all_sets}
+use Rattle.mv_vpssets.specs.DpbSizes.{DpbSetValue}
 use Rattle.mv_vpsext.specs.Derived.{reorder, numbered_ols, all_ols, derived}
 use Rattle.mv_vpsext.specs.VpsExt.{VpsExtValue, vps_extension}
 use Rattle.mv_rules.specs.declared.rule.Rule.TheVariants.{VpsLimit}

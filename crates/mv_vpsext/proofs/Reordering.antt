@@ -5,8 +5,8 @@ use Rattle.std.proofs.lemmas.Bool.{ltb-false}
 use Rattle.mv_syntax.specs.Table.{when, Valid}
 use Rattle.mv_syntax.specs.Words.{◌otherwise◌, last_coded, over}
 use Rattle.mv_syntax.proofs.LoopLaws.{items-valid}
-use Rattle.mv_vpsext.specs.DpbSizes.{DpbNumbersValue, DpbSubLayerValue, DpbSetValue, DpbLayers, dpb_numbers, dpb_sub_layer, dpb_sub_layers, dpb_set, dpb_of_set, dpb_size}
-use Rattle.mv_vpsext.proofs.Bounds.{at_each_place}
+use Rattle.mv_vpssets.specs.DpbSizes.{DpbNumbersValue, DpbSubLayerValue, DpbSetValue, DpbLayers, dpb_numbers, dpb_sub_layer, dpb_sub_layers, dpb_set, dpb_of_set, dpb_size}
+use Rattle.mv_vpssets.proofs.Bounds.{at_each_place}
 use Rattle.mv_vpsext.specs.Derived.{no_dpb, coded_reorder, reorder_pics}
 
 -- one value more

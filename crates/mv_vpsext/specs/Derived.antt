@@ -6,8 +6,8 @@ use Rattle.mv_layers.specs.LayerInfos.{LayerInfoValue}
 use Rattle.mv_layers.specs.OutputLayers.{OlsLayers}
 use Rattle.mv_layers.specs.Derived.{OlsValue, DerivedValue, ols_value}
 use Rattle.mv_vpsext.specs.Args.{VpsArgsValue}
-use Rattle.mv_vpsext.specs.Sets.{all_sets}
-use Rattle.mv_vpsext.specs.DpbSizes.{DpbNumbersValue, DpbSubLayerValue, DpbSetValue}
+use Rattle.mv_vpssets.specs.Sets.{all_sets}
+use Rattle.mv_vpssets.specs.DpbSizes.{DpbNumbersValue, DpbSubLayerValue, DpbSetValue}
 use Rattle.mv_vpsext.specs.VpsExt.{VpsExtValue, ext_layers}
 
 -- max_vps_num_reorder_pics of a sub-layer, if it is coded.

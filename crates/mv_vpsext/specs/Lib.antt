@@ -1,14 +1,7 @@
 pub mod Args
-pub mod Layers
-pub mod Dimensions
-pub mod Dependencies
 pub mod Profiles
-pub mod OutputSets
 pub mod Formats
 pub mod Pictures
-pub mod DpbSizes
-pub mod DependencyTypes
 pub mod ExtEnding
-pub mod Sets
 pub mod VpsExt
 pub mod Derived

@@ -5,17 +5,17 @@ use Rattle.mv_syntax.specs.Words.{◌▸◌, ◌>>◌}
 use Rattle.mv_vpsext.specs.Args.{VpsArgsValue}
 use Rattle.mv_layers.specs.LayerInfos.{LayerInfoValue}
 use Rattle.mv_layers.specs.OutputLayers.{OlsLayers}
-use Rattle.mv_vpsext.specs.Layers.{layers_described}
-use Rattle.mv_vpsext.specs.Dimensions.{VpsDimensionsValue, dimensions}
-use Rattle.mv_vpsext.specs.Dependencies.{VpsDependenciesValue, dependencies}
+use Rattle.mv_vpslayers.specs.Layers.{layers_described}
+use Rattle.mv_vpslayers.specs.Dimensions.{VpsDimensionsValue, dimensions}
+use Rattle.mv_vpslayers.specs.Dependencies.{VpsDependenciesValue, dependencies}
 use Rattle.mv_vpsext.specs.Profiles.{VpsProfilesValue, profiles}
-use Rattle.mv_vpsext.specs.OutputSets.{VpsOutputSetsValue, output_sets}
+use Rattle.mv_vpssets.specs.OutputSets.{VpsOutputSetsValue, output_sets}
 use Rattle.mv_vpsext.specs.Formats.{VpsFormatsValue, formats}
-use Rattle.mv_vpsext.specs.DpbSizes.{DpbSetValue, dpb_size}
+use Rattle.mv_vpssets.specs.DpbSizes.{DpbSetValue, dpb_size}
 use Rattle.mv_vpsext.specs.Pictures.{VpsPicturesValue, pictures}
-use Rattle.mv_vpsext.specs.DependencyTypes.{VpsDependencyTypesValue, types}
+use Rattle.mv_vpslayers.specs.DependencyTypes.{VpsDependencyTypesValue, types}
 use Rattle.mv_vpsext.specs.ExtEnding.{VpsExtEndingValue, ext_ending}
-use Rattle.mv_vpsext.specs.Sets.{all_sets, all_dpb_layers}
+use Rattle.mv_vpssets.specs.Sets.{all_sets, all_dpb_layers}
 
 -- The fields in coded order, in parts.
 pub record VpsExtValue : Type 0 where

@@ -4,8 +4,8 @@ ghost use Rattle.std.specs.Prelude.{◌≡◌, ◌≤◌, ℕ, get_or, IfOk};
 ghost use Rattle.mv_syntax.specs.Words.{◌otherwise◌};
 ghost use Rattle.mv_vpsext.specs.Derived.{no_dpb, coded_reorder, reorder_pics, reorder, all_ols};
 
-use crate::dpb_sizes::{DpbSizes, DpbSubLayer};
 use mv_layers::{Ols, OlsLayers};
+use mv_vpssets::{DpbSizes, DpbSubLayer};
 use std::alloc::{AllocError, Global};
 
 // max_vps_num_reorder_pics of a sub-layer: where it isn't coded, that of the sub-layer below.

@@ -6,31 +6,32 @@ ghost use Rattle.mv_syntax.specs.Printed.{printed};
 ghost use Rattle.mv_syntax.specs.Words.{◌otherwise◌};
 ghost use Rattle.mv_fields.specs.Reading.{ReadsBy, ReadsAs};
 ghost use Rattle.mv_vpsext.specs.Args.{AreVpsArgs};
-ghost use Rattle.mv_vpsext.specs.Dimensions.{dimensions};
-ghost use Rattle.mv_vpsext.specs.Dependencies.{dependencies};
+ghost use Rattle.mv_vpslayers.specs.Dimensions.{dimensions};
+ghost use Rattle.mv_vpslayers.specs.Dependencies.{dependencies};
 ghost use Rattle.mv_vpsext.specs.Profiles.{profiles};
 ghost use Rattle.mv_vpsext.specs.Formats.{formats};
 ghost use Rattle.mv_vpsext.specs.Pictures.{pictures};
-ghost use Rattle.mv_vpsext.specs.DependencyTypes.{types};
-ghost use Rattle.mv_vpsext.specs.OutputSets.{output_sets};
-ghost use Rattle.mv_vpsext.specs.Sets.{all_sets};
+ghost use Rattle.mv_vpslayers.specs.DependencyTypes.{types};
+ghost use Rattle.mv_vpssets.specs.OutputSets.{output_sets};
+ghost use Rattle.mv_vpssets.specs.Sets.{all_sets};
 ghost use Rattle.mv_vpsext.specs.VpsExt.{ext_layers, dpb_sizes};
 
 use crate::args::VpsArgs;
-use crate::dependencies::{VpsDependencies, dependencies_of, print_dependencies};
-use crate::dependency_types::{VpsDependencyTypes, print_types, types_of};
-use crate::dimensions::{VpsDimensions, dimensions_of, print_dimensions};
-use crate::dpb_sizes::{DpbSizes, dpb_size_of, print_dpb_size};
 use crate::formats::{VpsFormats, formats_of, print_formats};
-use crate::layers::layers_described;
-use crate::output_sets::{VpsOutputSets, output_sets_of, print_output_sets};
 use crate::pictures::{VpsPictures, pictures_of, print_pictures};
 use crate::profiles::{VpsProfiles, print_profiles, profiles_of};
-use crate::sets::{all_dpb_layers_of, all_sets_of};
 use mv_bits::BitReader;
 use mv_fields::{Fault, Printer};
 use mv_layers::{LayerInfo, OlsLayers};
 use mv_rules::Rule;
+use mv_vpslayers::{
+    VpsDependencies, VpsDependencyTypes, VpsDimensions, dependencies_of, dimensions_of,
+    layers_described, print_dependencies, print_dimensions, print_types, types_of,
+};
+use mv_vpssets::{
+    DpbSizes, VpsOutputSets, all_dpb_layers_of, all_sets_of, dpb_size_of, output_sets_of,
+    print_dpb_size, print_output_sets,
+};
 use std::alloc::{AllocError, Global};
 
 /// What the first two parts say of each layer.
@@ -158,7 +159,7 @@ pub(crate) fn pictures_in(
     pictures_of(alloc, bits, args.vps_max_layers_minus1, flags)
 }
 
-#[tactic(auto, unfolding(crate::specs::VpsExt::dpb_sizes, crate::specs::Sets::all_dpb_layers))]
+#[tactic(auto, unfolding(crate::specs::VpsExt::dpb_sizes, mv_vpssets::specs::Sets::all_dpb_layers))]
 pub(crate) fn dpb_size_in(
     alloc: Global,
     bits: &mut BitReader,
@@ -294,7 +295,7 @@ pub(crate) fn print_pictures_in(
     print_pictures(out, v, args.vps_max_layers_minus1, flags)
 }
 
-#[tactic(auto, unfolding(crate::specs::VpsExt::dpb_sizes, crate::specs::Sets::all_dpb_layers))]
+#[tactic(auto, unfolding(crate::specs::VpsExt::dpb_sizes, mv_vpssets::specs::Sets::all_dpb_layers))]
 pub(crate) fn print_dpb_size_in(
     alloc: Global,
     out: &mut Printer,

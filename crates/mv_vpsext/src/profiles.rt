@@ -5,11 +5,11 @@ ghost use Rattle.mv_fields.specs.Reading.{ReadsBy, ReadsAs};
 ghost use Rattle.mv_common.specs.ProfileTier.{profile_tier_level};
 ghost use Rattle.mv_vpsext.specs.Profiles.{vps_profile, vps_profiles, profiles};
 
-use crate::shared::profile_tier_of;
 use mv_bits::BitReader;
-use mv_common::{ProfileArgs, ProfileTier};
+use mv_common::ProfileTier;
 use mv_fields::{Fault, Printer, u8_of, ue_within};
 use mv_rules::Rule;
+use mv_vpslayers::{print_profile_tier, profile_tier_of};
 use std::alloc::{AllocError, Global};
 use std::marker::Model;
 
@@ -123,11 +123,12 @@ fn print_vps_profile(
 {
     let present = v.vps_profile_present_flag == 1;
     out.flag("vps_profile_present_flag", v.vps_profile_present_flag)?;
-    let args = ProfileArgs {
+    print_profile_tier(
+        out,
+        &v.profile_tier_level,
         present,
-        subs: vps_max_sub_layers_minus1,
-    };
-    v.profile_tier_level.print(out, &args)?;
+        vps_max_sub_layers_minus1,
+    )?;
     Ok(())
 }
 

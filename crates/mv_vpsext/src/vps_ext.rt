@@ -8,14 +8,9 @@ ghost use Rattle.mv_vpsext.specs.VpsExt.{vps_extension};
 ghost use Rattle.mv_vpsext.specs.Derived.{derived};
 
 use crate::args::VpsArgs;
-use crate::dependencies::VpsDependencies;
-use crate::dependency_types::VpsDependencyTypes;
 use crate::derived::all_ols;
-use crate::dimensions::VpsDimensions;
-use crate::dpb_sizes::DpbSizes;
 use crate::ending::{VpsExtEnding, ending_of, print_ending};
 use crate::formats::VpsFormats;
-use crate::output_sets::VpsOutputSets;
 use crate::parts::{
     dependencies_in, dimensions_in, dpb_size_in, formats_in, infos_of, output_sets_in, pictures_in,
     print_dependencies_in, print_dimensions_in, print_dpb_size_in, print_formats_in,
@@ -28,6 +23,8 @@ use mv_bits::{BitReader, BitWriter};
 use mv_fields::{Fault, Printer};
 use mv_layers::Derived;
 use mv_rules::{ReadFault, Rule};
+use mv_vpslayers::{VpsDependencies, VpsDependencyTypes, VpsDimensions};
+use mv_vpssets::{DpbSizes, VpsOutputSets};
 use std::alloc::{AllocError, Global};
 use std::marker::Model;
 

@@ -1,6 +1,6 @@
 use Rattle.std.proofs.Common.{◌≡◌}
-use Rattle.mv_syntax.specs.Table.{read}
-use Rattle.mv_syntax.specs.Loops.{rest_of_items}
+use Rattle.mv_syntax.specs.inner.Reader.{read}
+use Rattle.mv_syntax.specs.inner.Turns.{rest_of_items}
 use Rattle.mv_common.specs.Hrd.{hrd_sub_layer, hrd_sub_layers}
 use Rattle.mv_common.proofs.hrd_sub_layer.hrd_sub_layers_of.Given as goal
 

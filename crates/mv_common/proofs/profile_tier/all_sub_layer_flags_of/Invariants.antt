@@ -1,6 +1,6 @@
 use Rattle.std.proofs.Common.{◌≡◌}
-use Rattle.mv_syntax.specs.Table.{read}
-use Rattle.mv_syntax.specs.Loops.{rest_of_columns}
+use Rattle.mv_syntax.specs.inner.Reader.{read}
+use Rattle.mv_syntax.specs.inner.Turns.{rest_of_columns}
 use Rattle.mv_common.specs.ProfileTier.{sub_layer_flags, all_sub_layer_flags}
 use Rattle.mv_common.proofs.profile_tier.all_sub_layer_flags_of.Given as goal
 

@@ -1,6 +1,6 @@
 use Rattle.std.proofs.Common.{◌≡◌}
-use Rattle.mv_syntax.specs.Table.{read}
-use Rattle.mv_syntax.specs.Loops.{rest_of_items}
+use Rattle.mv_syntax.specs.inner.Reader.{read}
+use Rattle.mv_syntax.specs.inner.Turns.{rest_of_items}
 use Rattle.mv_common.specs.ScalingLists.{coefficient, coefficients}
 use Rattle.mv_common.proofs.scaling_lists.coefficients_of.Given as goal
 

@@ -1,6 +1,8 @@
 use Rattle.std.proofs.Common.{◌≡◌}
-use Rattle.mv_syntax.specs.Table.{u, read}
-use Rattle.mv_syntax.specs.Loops.{each, us, rest_of_items}
+use Rattle.mv_syntax.specs.Table.{u}
+use Rattle.mv_syntax.specs.inner.Reader.{read}
+use Rattle.mv_syntax.specs.Loops.{each, us}
+use Rattle.mv_syntax.specs.inner.Turns.{rest_of_items}
 use Rattle.mv_fields.proofs.loops.u32s_of.Given as goal
 
 abbrev pub invariant-loop-i : goal.invariant-loop-i

@@ -1,6 +1,8 @@
 use Rattle.std.proofs.Common.{◌≡◌}
-use Rattle.mv_syntax.specs.Table.{ue, read}
-use Rattle.mv_syntax.specs.Loops.{each, ues, rest_of_items}
+use Rattle.mv_syntax.specs.Table.{ue}
+use Rattle.mv_syntax.specs.inner.Reader.{read}
+use Rattle.mv_syntax.specs.Loops.{each, ues}
+use Rattle.mv_syntax.specs.inner.Turns.{rest_of_items}
 use Rattle.mv_fields.proofs.loops.ues_of.Given as goal
 
 abbrev pub invariant-loop-i : goal.invariant-loop-i

@@ -1,6 +1,7 @@
 use Rattle.std.proofs.Common.{◌≡◌}
-use Rattle.mv_syntax.specs.Table.{read}
-use Rattle.mv_syntax.specs.Loops.{each, columns, rest_of_columns}
+use Rattle.mv_syntax.specs.inner.Reader.{read}
+use Rattle.mv_syntax.specs.Loops.{each, columns}
+use Rattle.mv_syntax.specs.inner.Turns.{rest_of_columns}
 use Rattle.mv_short_sets.specs.ShortSet.{candidate_flags}
 use Rattle.mv_short_sets.proofs.short_set.all_candidate_flags_of.Given as goal
 

@@ -1,7 +1,8 @@
 use Rattle.std.proofs.Common.{◌≡◌, ◌+◌, ◌*◌, ◌≤◌, length, sym, ap, subst, ◌∙◌, arith}
 use Rattle.mv_syntax.specs.Bits.{byte_bits}
-use Rattle.mv_syntax.specs.Table.{Reads, read}
-use Rattle.mv_syntax.specs.Answers.{FailsAs}
+use Rattle.mv_syntax.specs.Table.{Reads}
+use Rattle.mv_syntax.specs.inner.Reader.{read}
+use Rattle.mv_syntax.specs.inner.Filling.{FailsAs}
 use Rattle.mv_syntax.proofs.BitLaws.{length-byte_bits}
 use Rattle.mv_syntax.proofs.PayloadLaws.{rest_shorter}
 use Rattle.mv_syntax.proofs.TableLaws.{reads-of, cut-read}

@@ -1,6 +1,6 @@
 use Rattle.std.proofs.Common.{◌≡◌}
-use Rattle.mv_syntax.specs.Table.{read}
-use Rattle.mv_syntax.specs.Loops.{rest_of_items_after}
+use Rattle.mv_syntax.specs.inner.Reader.{read}
+use Rattle.mv_syntax.specs.inner.Turns.{rest_of_items_after}
 use Rattle.mv_slice.specs.InterLayer.{active_layer, active_layer_numbers}
 use Rattle.mv_slice.proofs.inter_layer.active_layers_of.Given as goal
 

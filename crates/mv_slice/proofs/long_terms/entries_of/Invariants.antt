@@ -1,6 +1,6 @@
 use Rattle.std.proofs.Common.{◌≡◌}
-use Rattle.mv_syntax.specs.Table.{read}
-use Rattle.mv_syntax.specs.Loops.{rest_of_items}
+use Rattle.mv_syntax.specs.inner.Reader.{read}
+use Rattle.mv_syntax.specs.inner.Turns.{rest_of_items}
 use Rattle.mv_slice.specs.LongTerms.{entries, long_term}
 use Rattle.mv_slice.proofs.long_terms.entries_of.Given as goal
 

@@ -1,6 +1,6 @@
 use Rattle.std.proofs.Common.{refl, sym, ap, ◌∙◌, subst}
-use Rattle.mv_syntax.specs.Table.{read}
-use Rattle.mv_syntax.specs.Answers.{FailsAs}
+use Rattle.mv_syntax.specs.inner.Reader.{read}
+use Rattle.mv_syntax.specs.inner.Filling.{FailsAs}
 use Rattle.mv_syntax.proofs.TableLaws.{reads-of}
 use Rattle.mv_fields.specs.Faults.{means}
 use Rattle.mv_slice.specs.Opening.{opening}

@@ -1,6 +1,7 @@
 use Rattle.std.proofs.Common.{◌≡◌}
-use Rattle.mv_syntax.specs.Table.{read}
-use Rattle.mv_syntax.specs.Loops.{rest_of_items, each}
+use Rattle.mv_syntax.specs.inner.Reader.{read}
+use Rattle.mv_syntax.specs.Loops.{each}
+use Rattle.mv_syntax.specs.inner.Turns.{rest_of_items}
 use Rattle.mv_slice.specs.Weights.{chroma_weight, chroma_weights}
 use Rattle.mv_slice.proofs.weights.chroma_weights_of.Given as goal
 

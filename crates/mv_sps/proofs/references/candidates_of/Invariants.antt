@@ -1,6 +1,7 @@
 use Rattle.std.proofs.Common.{◌≡◌}
-use Rattle.mv_syntax.specs.Table.{read}
-use Rattle.mv_syntax.specs.Loops.{each, rest_of_columns}
+use Rattle.mv_syntax.specs.inner.Reader.{read}
+use Rattle.mv_syntax.specs.Loops.{each}
+use Rattle.mv_syntax.specs.inner.Turns.{rest_of_columns}
 use Rattle.mv_sps.specs.References.{candidate, candidates}
 use Rattle.mv_sps.proofs.references.candidates_of.Given as goal
 

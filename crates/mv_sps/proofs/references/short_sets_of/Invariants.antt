@@ -1,6 +1,6 @@
 use Rattle.std.proofs.Common.{◌≡◌, length}
-use Rattle.mv_syntax.specs.Table.{read}
-use Rattle.mv_syntax.specs.Loops.{rest_of_items_after}
+use Rattle.mv_syntax.specs.inner.Reader.{read}
+use Rattle.mv_syntax.specs.inner.Turns.{rest_of_items_after}
 use Rattle.mv_short_sets.specs.ShortSet.{ValidSets}
 use Rattle.mv_sps.specs.References.{short_set, short_sets}
 use Rattle.mv_sps.proofs.references.short_sets_of.Given as goal

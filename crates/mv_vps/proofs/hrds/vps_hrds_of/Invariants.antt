@@ -1,6 +1,6 @@
 use Rattle.std.proofs.Common.{◌≡◌}
-use Rattle.mv_syntax.specs.Table.{read}
-use Rattle.mv_syntax.specs.Loops.{rest_of_items_after}
+use Rattle.mv_syntax.specs.inner.Reader.{read}
+use Rattle.mv_syntax.specs.inner.Turns.{rest_of_items_after}
 use Rattle.mv_vps.specs.Timing.{flags_behind, next_hrd, vps_hrds}
 use Rattle.mv_vps.proofs.hrds.vps_hrds_of.Given as goal
 

@@ -6,7 +6,7 @@ use Rattle.std.proofs.lemmas.Iterator.Adapters.{YieldsList-from_vec}
 use Rattle.std.proofs.lemmas.Iterator.Consumers.{YieldsList-end}
 use Rattle.mv_layers.specs.Derived.{ols_value}
 use Rattle.mv_vpsext.specs.Derived.{numbered_ols, all_ols}
-use Rattle.mv_vpsext.proofs.SetSteps.{ols_more}
+use Rattle.mv_vpsext.proofs.Numbering.{ols_more}
 use Rattle.mv_vpsext.proofs.derived.all_ols.Goals as goal
 
 pub loop-set-preserved : goal.loop-set-preserved

@@ -1,6 +1,6 @@
 use Rattle.std.proofs.Common.{◌≡◌}
-use Rattle.mv_syntax.specs.Table.{read}
-use Rattle.mv_syntax.specs.Loops.{rest_of_items}
+use Rattle.mv_syntax.specs.inner.Reader.{read}
+use Rattle.mv_syntax.specs.inner.Turns.{rest_of_items}
 use Rattle.mv_vpsext.specs.Formats.{rep_format_idx, rep_format_idxs}
 use Rattle.mv_vpsext.proofs.formats.rep_format_idxs_of.Given as goal
 

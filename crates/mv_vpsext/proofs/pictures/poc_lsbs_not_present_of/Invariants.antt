@@ -1,6 +1,6 @@
 use Rattle.std.proofs.Common.{◌≡◌}
-use Rattle.mv_syntax.specs.Table.{read}
-use Rattle.mv_syntax.specs.Loops.{rest_of_items}
+use Rattle.mv_syntax.specs.inner.Reader.{read}
+use Rattle.mv_syntax.specs.inner.Turns.{rest_of_items}
 use Rattle.mv_vpsext.specs.Pictures.{poc_lsb_not_present, poc_lsbs_not_present}
 use Rattle.mv_vpsext.proofs.pictures.poc_lsbs_not_present_of.Given as goal
 

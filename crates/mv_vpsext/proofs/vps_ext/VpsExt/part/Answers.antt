@@ -3,7 +3,7 @@ use Rattle.mv_fields.specs.Faults.{means}
 use Rattle.mv_vpsext.specs.VpsExt.{vps_extension}
 use Rattle.mv_vpsext.specs.Derived.{no_dpb, reorder_pics}
 use Rattle.mv_vpsext.proofs.Bounds.{sub_layers_of_read}
-use Rattle.mv_vpsext.proofs.SetSteps.{some_sets}
+use Rattle.mv_vpssets.proofs.SetSteps.{some_sets}
 use Rattle.mv_vpsext.proofs.Extensions.{reorder_of_read, handed_on}
 use Rattle.mv_vpsext.proofs.vps_ext.VpsExt.part.Goals as goal
 

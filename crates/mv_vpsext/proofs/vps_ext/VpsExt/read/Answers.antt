@@ -1,7 +1,8 @@
 use Rattle.std.proofs.Common.{Err, sym, ap, subst, ◌∙◌}
 use Rattle.mv_syntax.specs.Cursor.{Cursor}
-use Rattle.mv_syntax.specs.Table.{Reads, Cut, read}
-use Rattle.mv_syntax.specs.Answers.{FailsAs}
+use Rattle.mv_syntax.specs.Table.{Reads, Cut}
+use Rattle.mv_syntax.specs.inner.Reader.{read}
+use Rattle.mv_syntax.specs.inner.Filling.{FailsAs}
 use Rattle.mv_syntax.proofs.TableLaws.{reads-of}
 use Rattle.mv_rules.specs.declared.rule.Rule.TheVariants.{VpsSyntax}
 use Rattle.mv_fields.specs.Faults.{means}

@@ -1,0 +1,4 @@
+pub mod Layers
+pub mod Dimensions
+pub mod Dependencies
+pub mod DependencyTypes

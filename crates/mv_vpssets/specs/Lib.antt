@@ -1,0 +1,3 @@
+pub mod OutputSets
+pub mod DpbSizes
+pub mod Sets
