@@ -1,0 +1,5 @@
+//! Tests of short-term reference picture sets, apart from them: a crate with tests is proved twice.
+#![tactic(auto)]
+
+#[cfg(test)]
+mod tests;

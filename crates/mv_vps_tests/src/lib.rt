@@ -1,0 +1,9 @@
+//! Tests of video parameter sets, apart from them: a crate with tests is proved twice.
+#![tactic(auto)]
+
+#[cfg(test)]
+mod field_tests;
+#[cfg(test)]
+mod payload_tests;
+#[cfg(test)]
+mod tests;
