@@ -1,0 +1,6 @@
+mod ExampleUnits
+mod Observing
+mod Examples
+mod RuleUnits
+mod RuleExamples
+pub mod Nearest
