@@ -1,0 +1,4 @@
+pub mod HeldOneMore
+pub mod InOrder
+pub mod Kept
+pub mod OneMore
