@@ -1,0 +1,9 @@
+pub mod JoiningLaws
+pub mod LeavingLaws
+pub mod OrderLaws
+pub mod Picking
+pub mod PutLaws
+pub mod StoredLaws
+pub mod WaitingLaws
+pub mod WaitsLaws
+pub mod WholeLaws
