@@ -1,0 +1,10 @@
+pub mod Agreement
+pub mod LayerState
+pub mod PpsFits
+pub mod SpsFits
+pub mod States
+pub mod StatesValue
+pub mod StateSteps
+pub mod Tracker
+pub mod TrackerValue
+pub mod Tracking

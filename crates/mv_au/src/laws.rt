@@ -1,0 +1,55 @@
+//! Laws of what these objects stand for. Each function has an empty body, and its contract is the law.
+#![tactic(auto)]
+
+ghost use Rattle.std.specs.Prelude.{ℕ, ◌≡◌, ◌∷◌, ◌&&◌, not, true, false, Bool, List, Option, Some, None, nat_eq, option_map};
+ghost use Rattle.mv_history.specs.History.{Throughout};
+ghost use Rattle.mv_pictures.specs.AccessUnits.{Placed, all_placed, has_changed_vps, in_au, number};
+ghost use Rattle.mv_pictures.specs.Items.{Item, is_known, is_picture as is_unit_picture};
+ghost use Rattle.mv_pictures.specs.Facts.{Fact};
+ghost use Rattle.mv_pictures.specs.History.{judged};
+ghost use Rattle.mv_pictures.specs.Look.{Look};
+ghost use Rattle.mv_pictures.specs.PictureRules.{vps_mid_cvs};
+ghost use Rattle.mv_pictures.specs.Judged.{Judged, is_base, is_end, is_layer_end, is_picture};
+ghost use Rattle.mv_au.specs.PpsFits.{PpsFits};
+ghost use Rattle.mv_pps.specs.Pps.{PpsValue, pps};
+ghost use Rattle.mv_au.specs.SpsFits.{SpsFits};
+ghost use Rattle.mv_sps.specs.Sps.{SpsValue, sps_payload};
+ghost use Rattle.mv_syntax.specs.Payload.{ValidPayload};
+ghost use Rattle.mv_au.specs.States.{Stands as StatesStand, is_started, state_of};
+ghost use Rattle.mv_au.specs.StatesValue.{StatesValue};
+ghost use Rattle.mv_au.specs.Tracker.{Stands, broken, latest_base};
+ghost use Rattle.mv_au.specs.TrackerValue.{TrackerValue};
+
+/// A stray counts for no access unit (this project's profile): a tracker stands for it too without a call.
+pub fn a_stray_is_of_no_access_unit()
+    ensures { (t : TrackerValue) (us : List Item) (i : Item) → Stands t us → is_known i ≡ false → Stands t (i ∷ us) }
+{}
+
+/// In units none of which breaks a rule on access units, a picture of a layer above 0 stands in the access unit of the latest
+/// picture of layer 0 before it (F.7.4.2.4.4), as the states of layers want it.
+pub fn a_picture_stands_behind_its_base_picture()
+    ensures { (us : List Item) (i : Item) → Throughout (λ past p. broken past p ≡ None) (all_placed (i ∷ us)) → is_unit_picture i ≡ true → nat_eq i.head.layer 0 ≡ false →
+        option_map (in_au (number (all_placed us) i)) (latest_base (all_placed us)) ≡ Some true }
+{}
+
+/// What is neither a picture nor an end of a sequence or of the bitstream changes no state of a layer (8.1.3, F.8.1.3): states of
+/// layers stand for it too without a call.
+pub fn other_units_change_no_state()
+    ensures { (s : StatesValue) (past : List Judged) (p : Fact) → StatesStand s past → is_picture p ≡ false → is_end p ≡ false → is_layer_end p ≡ false → StatesStand s (judged past p ∷ past) }
+{}
+
+/// A changed video parameter set in the access unit of a base picture breaks the rule on it exactly where the states of layers
+/// answer anything but a start (this project's profile).
+pub fn a_changed_set_wants_a_start()
+    ensures { (past : List Placed) (l : Look) (p : Fact) → is_base p ≡ true → vps_mid_cvs past l p ≡ (not (is_started (state_of l p)) && has_changed_vps past p.placed) }
+{}
+
+/// The fields of a valid picture parameter set that slice segment headers take are within their limits (7.3.2.3.1).
+pub fn a_valid_picture_parameter_set_fits()
+    ensures { (v : PpsValue) (tail : Option (List Bool)) → ValidPayload pps (v, tail) → PpsFits v }
+{}
+
+/// The fields of a valid sequence parameter set that slice segment headers take are within their limits (7.3.2.2.1).
+pub fn a_valid_sequence_parameter_set_fits()
+    ensures { (layer vps_sub_layers : ℕ) (v : SpsValue) (tail : Option (List Bool)) → ValidPayload (sps_payload layer vps_sub_layers) (v, tail) → SpsFits v }
+{}
