@@ -1,5 +1,5 @@
 #!/usr/bin/env python3
-"""Measures the commands of mv_cli on streams that it makes itself, beside `cat` in the same run.
+"""Measures the commands of mv_cli, as built here or else as dist/ has it, on streams that it makes itself, beside `cat`.
 
 Streams: large units (900 KB), middle ones (250 KB), small ones (90 bytes), all of layer 0, with four-byte start codes;
 `unpack` is given the same units in the length-prefixed form. For each command and stream it prints MB/s and the ratio to
@@ -19,7 +19,8 @@ import tempfile
 import time
 
 HERE = os.path.dirname(os.path.dirname(os.path.abspath(__file__)))
-PROGRAM = os.path.join(HERE, "crates", "mv_cli", "out", "mv_cli")
+BUILD = os.path.join(HERE, "crates", "mv_cli", "out", "mv_cli")
+PROGRAM = BUILD if os.path.exists(BUILD) else os.path.join(HERE, "dist", "mv_cli")
 COMMANDS = {"extract": ("extract", "0"), "pack": ("pack",), "unpack": ("unpack",)}
 KINDS = (("large", 900_000), ("middle", 250_000), ("small", 90))
 

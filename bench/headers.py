@@ -20,7 +20,7 @@ import tempfile
 HERE = os.path.dirname(os.path.dirname(os.path.abspath(__file__)))
 CRATES = (
     "mv_rules", "mv_io", "mv_syntax", "mv_bits", "mv_fields", "mv_common", "mv_short_sets", "mv_layers", "mv_pps", "mv_sps",
-    "mv_vpsext", "mv_vps",
+    "mv_vpslayers", "mv_vpssets", "mv_vpsext", "mv_vps",
 )
 MOST = 65_536
 
@@ -29,12 +29,18 @@ MOST = 65_536
 PROGRAM = """//! Reads a parameter set in a loop, and writes or shows it.
 #![tactic(auto)]
 
+ghost use Rattle.std.specs.Prelude.{◌≤◌};
+ghost use Rattle.mv_syntax.specs.Payload.{ValidPayload};
+ghost use Rattle.mv_pps.specs.Pps.{pps};
+ghost use Rattle.mv_sps.specs.Sps.{sps_payload};
+ghost use Rattle.mv_vps.specs.Vps.{ValidVps};
+
 use mv_fields::Printer;
 use mv_io::{Source, StdSource};
-use mv_pps::{read_pps, show_pps, write_pps};
-use mv_sps::{read_sps, show_sps, write_sps};
-use mv_vps::{read_vps, show_vps, write_vps};
-use std::alloc::Global;
+use mv_pps::{Pps, read_pps, show_pps, write_pps};
+use mv_sps::{Sps, read_sps, show_sps, write_sps};
+use mv_vps::{Vps, read_vps, show_vps, write_vps};
+use std::alloc::{AllocError, Global};
 use std::process::ExitCode;
 
 fn is(word: &[u8], k: usize, letter: u8) -> bool {
@@ -44,50 +50,90 @@ fn is(word: &[u8], k: usize, letter: u8) -> bool {
     }
 }
 
-fn digit(word: &[u8], k: usize) -> u32 {
+fn digit(word: &[u8], k: usize) -> u32
+    ensures { result ≤ 255 }
+{
     match word.get(k) {
         Some(byte) => u32::from(byte.wrapping_sub(48)),
         None => 0,
     }
 }
 
-fn vps_turn(alloc: Global, payload: &[u8], action: &[u8], out: &mut Printer) -> Option<u64> {
-    let value = read_vps(alloc, payload).ok()?;
+fn length_of(written: Result<Vec<u8>, AllocError>) -> Option<u64> {
+    match written {
+        Ok(bytes) => Some(bytes.len() as u64),
+        Err(_) => None,
+    }
+}
+
+// What is done with a set that was read: each is lent here, so that one function owns it and leaves it once.
+fn vps_told(alloc: Global, value: &Vps, action: &[u8], out: &mut Printer) -> Option<u64>
+    requires { ValidVps value.now }
+{
     if is(action, 1, 119) {
-        return Some(write_vps(alloc, &value).ok()?.len() as u64);
+        return length_of(write_vps(alloc, value));
     }
     if is(action, 1, 115) {
         *out = Printer::lines(alloc);
-        show_vps(out, &value).ok()?;
-        return Some(out.text().len() as u64);
+        return match show_vps(out, value) {
+            Ok(_) => Some(out.text().len() as u64),
+            Err(_) => None,
+        };
+    }
+    Some(1)
+}
+
+fn vps_turn(alloc: Global, payload: &[u8], action: &[u8], out: &mut Printer) -> Option<u64> {
+    match read_vps(alloc, payload) {
+        Ok(value) => vps_told(alloc, &value, action, out),
+        Err(_) => None,
+    }
+}
+
+fn sps_told(alloc: Global, value: &Sps, action: &[u8], out: &mut Printer) -> Option<u64>
+    requires { ValidPayload (sps_payload 0 0) value.now }
+{
+    if is(action, 1, 119) {
+        return length_of(write_sps(alloc, 0, 0, value));
+    }
+    if is(action, 1, 115) {
+        *out = Printer::lines(alloc);
+        return match show_sps(out, 0, 0, value) {
+            Ok(_) => Some(out.text().len() as u64),
+            Err(_) => None,
+        };
     }
     Some(1)
 }
 
 fn sps_turn(alloc: Global, payload: &[u8], action: &[u8], out: &mut Printer) -> Option<u64> {
-    let value = read_sps(alloc, 0, 0, payload).ok()?;
+    match read_sps(alloc, 0, 0, payload) {
+        Ok(value) => sps_told(alloc, &value, action, out),
+        Err(_) => None,
+    }
+}
+
+fn pps_told(alloc: Global, value: &Pps, action: &[u8], out: &mut Printer) -> Option<u64>
+    requires { ValidPayload pps value.now }
+{
     if is(action, 1, 119) {
-        return Some(write_sps(alloc, 0, 0, &value).ok()?.len() as u64);
+        return length_of(write_pps(alloc, value));
     }
     if is(action, 1, 115) {
         *out = Printer::lines(alloc);
-        show_sps(out, 0, 0, &value).ok()?;
-        return Some(out.text().len() as u64);
+        return match show_pps(out, value) {
+            Ok(_) => Some(out.text().len() as u64),
+            Err(_) => None,
+        };
     }
     Some(1)
 }
 
 fn pps_turn(alloc: Global, payload: &[u8], action: &[u8], out: &mut Printer) -> Option<u64> {
-    let value = read_pps(alloc, payload).ok()?;
-    if is(action, 1, 119) {
-        return Some(write_pps(alloc, &value).ok()?.len() as u64);
+    match read_pps(alloc, payload) {
+        Ok(value) => pps_told(alloc, &value, action, out),
+        Err(_) => None,
     }
-    if is(action, 1, 115) {
-        *out = Printer::lines(alloc);
-        show_pps(out, &value).ok()?;
-        return Some(out.text().len() as u64);
-    }
-    Some(1)
 }
 
 fn turn(alloc: Global, input: &[u8], out: &mut Printer) -> Option<u64> {
@@ -378,7 +424,7 @@ def build(folder):
     with open(f"{HERE}/crates.txt") as listed:
         lines = [line for line in listed if line.split(":")[0] in CRATES]
     with open(f"{folder}/crates.txt", "w") as out:
-        out.write("".join(lines) + "bench: mv_vps mv_sps mv_pps mv_fields mv_io\n")
+        out.write("".join(lines) + "bench: mv_vps mv_sps mv_pps mv_fields mv_syntax mv_io\n")
     done = subprocess.run(["rt", "run"], cwd=f"{folder}/crates/bench", capture_output=True, text=True, stdin=subprocess.DEVNULL)
     if not os.access(f"{folder}/crates/bench/out/bench", os.X_OK):
         sys.exit(done.stdout[-3000:] + done.stderr[-3000:])
