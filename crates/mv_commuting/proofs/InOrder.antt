@@ -1,13 +1,13 @@
 -- The lists of layers at a unit rise.
 use Rattle.std.proofs.Common.{◌≡◌, ℕ, ◌<◌, true, false, List, [], ◌∷◌, reverse, Option, None, Some, refl, sym, subst, arith}
-use Rattle.std.specs.Prelude.{All, option_map, slice_get, slice_index_or}
+use Rattle.std.specs.Prelude.{All, nat_eq, option_map, slice_get, slice_index_or}
 use Rattle.std.specs.List.{find}
 use Rattle.std.specs.List.Sorted.{IsStrictlyIncreasing}
 use Rattle.std.proofs.lemmas.Bool.{eqb-true}
 use Rattle.std.proofs.lemmas.List.Elements.{All-cons, All-nil, All-weaker}
 use Rattle.std.proofs.lemmas.Option.{get_or_from_slice_get, slice_get_within}
 use Rattle.mv_syntax.specs.Words.{◌otherwise◌}
-use Rattle.mv_layers.specs.Derived.{IsOrderly, IsOrderlyLayer, IsOrderlySet, OlsValue}
+use Rattle.mv_layers.specs.Derived.{IsOrderly, IsOrderlyLayer, IsOrderlySet, OlsValue, is_kept}
 use Rattle.mv_layers.specs.LayerInfos.{LayerInfoValue, is_layer}
 use Rattle.mv_layers.specs.OutputLayers.{is_among}
 use Rattle.mv_vps.specs.Vps.{WholeVps}
@@ -16,13 +16,14 @@ use Rattle.mv_pictures.specs.AccessUnits.{all_placed, placed}
 use Rattle.mv_pictures.specs.Carried.{value_of}
 use Rattle.mv_pictures.specs.Facts.{fact, facts}
 use Rattle.mv_pictures.specs.History.{facts_of, history, history_of, judged, judgement}
-use Rattle.mv_pictures.specs.Items.{items}
+use Rattle.mv_pictures.specs.Items.{Item, items}
 use Rattle.mv_pictures.specs.Judged.{Judged, vps_at}
-use Rattle.mv_pictures.specs.Layers.{InForce, closure, directs, layers_at, set_at, sets_at}
+use Rattle.mv_pictures.specs.Layers.{InForce, closure, directs, keeps, layers_at, set_at, sets_at}
 use Rattle.mv_pictures.specs.Output.{outputs}
 use Rattle.mv_commuting.specs.InOrder.{described_at}
 use Rattle.mv_commuting.proofs.Closures.{find_all}
-use Rattle.mv_commuting.proofs.KeptLayers.{IsOrderlyAt}
+use Rattle.mv_commuting.specs.Kept.{KeepsOutputsOf}
+use Rattle.mv_commuting.proofs.KeptLayers.{IsOrderlyAt, items_orderly}
 use Rattle.mv_commuting.proofs.Steady.{hist, item_orderly, this_judged}
 
 none_rises : IsStrictlyIncreasing []
@@ -89,6 +90,25 @@ outputs-rise at h o = go (slice_get (sets_at at) o) refl
         let here : slice_index_or (sets_at at) o set ≡ set = get_or_from_slice_get (sets_at at) o set set is in
         let one : IsOrderlySet (layers_at at) set = subst (IsOrderlySet (layers_at at)) here (h.each_set o set (slice_get_within (sets_at at) o set is)) in
         one.outputs_rise
+
+-- the outputs of a set are kept for it
+own-outputs : (at : InForce) → IsOrderly (described_at at) → (o layer : ℕ) → is_among (outputs at o) layer ≡ true → keeps o at layer ≡ true
+unfolding outputs set_at keeps
+own-outputs None h o layer refers = refl
+own-outputs (Some vps) h o layer refers = go (slice_get (sets_at (Some vps)) o) refl refers
+  where
+    go : (found : Option OlsValue) → slice_get (sets_at (Some vps)) o ≡ found → is_among (option_map (λ (s : OlsValue). s.outputs) found otherwise []) layer ≡ true
+        → (option_map (λ set. is_kept set layer) found otherwise nat_eq layer 0) ≡ true
+    go None is among = absurd (let wrong : true ≡ false = sym among in cc)
+    go (Some set) is among =
+        let here : slice_index_or (sets_at (Some vps)) o set ≡ set = get_or_from_slice_get (sets_at (Some vps)) o set set is in
+        let one : IsOrderlySet (layers_at (Some vps)) set = subst (IsOrderlySet (layers_at (Some vps))) here (h.each_set o set (slice_get_within (sets_at (Some vps)) o set is)) in
+        one.outputs_kept layer among
+
+pub own-kept : (us : List (List ℕ)) (o : ℕ) → KeepsOutputsOf us o o
+own-kept us o =
+    All-weaker (λ (i : Item). IsOrderlyAt i.at) (λ (i : Item). (layer : ℕ) → is_among (outputs i.at o) layer ≡ true → keeps o i.at layer ≡ true)
+    (λ i h. own-outputs i.at (described i.at h) o) (items (reverse us)) (items_orderly (reverse us))
 
 -- ---- In the order of the stream
 

@@ -19,13 +19,14 @@ pub fn extracting_twice_is_extracting_once()
 
 /// Of an accepted stream the extract is accepted, and is judged, decoded and put out as the whole is (this project's profile).
 /// What is decided of its units is what is decided of those in the whole; its decoded pictures are the kept ones of the whole,
-/// with their sequences, access units, counts and terms; and each set whose outputs are kept has the same output pictures in
-/// the same order.
+/// with their sequences, access units, counts and terms; and each set whose outputs are kept, the set itself among
+/// them, has the same output pictures in the same order.
 pub fn decoding_commutes_with_extraction()
     ensures accepted { (us : List (List ℕ)) (o : ℕ) → is_accepted us ≡ true → is_accepted (extract us o) ≡ true }
     ensures history { (us : List (List ℕ)) (o : ℕ) → is_accepted us ≡ true → history_of (extract us o) ≡ filter (is_kept o) (history_of us) }
     ensures decode { (us : List (List ℕ)) (o : ℕ) → is_accepted us ≡ true → decode (extract us o) ≡ decode_kept us o }
     ensures out { (us : List (List ℕ)) (o p : ℕ) → is_accepted us ≡ true → KeepsOutputsOf us o p → out (extract us o) p ≡ out us p }
+    ensures own { (us : List (List ℕ)) (o : ℕ) → is_accepted us ≡ true → out (extract us o) o ≡ out us o }
 {}
 
 /// The same of byte strings (Annex B; this project's profile). The units of an accepted byte string are accepted; its extract,
