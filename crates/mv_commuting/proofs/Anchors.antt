@@ -139,7 +139,7 @@ anchors_decoded (u ∷ us) = All-cons IsDecodedAnchor (this_judged us u) (hist u
 
 -- ---- Counts in range
 
-abbrev IsInRange : Judged → Type 0
+abbrev pub IsInRange : Judged → Type 0
 IsInRange d = d.decoded ≡ true → (option_map is_in_range d.count otherwise false) ≡ true
 
 range_of : (l : Look) (p : Fact) → poc_range l p ≡ false → is_decoded l p ≡ true → (option_map is_in_range (count l p) otherwise false) ≡ true
@@ -156,7 +156,7 @@ this_range us u h =
     all_none (picture_cases (look (asked (hist us) (this_fact us u)) (this_fact us u)) (this_fact us u)) parts.of_picture in
     range_of (look (asked (hist us) (this_fact us u)) (this_fact us u)) (this_fact us u) each_case.1.1.1.0
 
-counts_in_range : (us : List (List ℕ)) → breaks_none (hist us) ≡ true → All IsInRange (hist us)
+pub counts_in_range : (us : List (List ℕ)) → breaks_none (hist us) ≡ true → All IsInRange (hist us)
 unfolding items run all_placed facts history
 counts_in_range [] h = All-nil IsInRange
 counts_in_range (u ∷ us) h =
@@ -173,7 +173,7 @@ pub counts-of : (us : List (List ℕ)) → is_accepted us ≡ true → All (λ (
 unfolding is_accepted history_of facts_of
 counts-of us h = counts_in_range (reverse us) (and_parts (breaks_none (hist (reverse us))) (not (no_picture (hist (reverse us)))) h).0
 
-All-from : {A : Type 0} (P : A → Type 0) (test : A → Bool) (xs : List A) → All P xs → All P (from test xs)
+pub All-from : {A : Type 0} (P : A → Type 0) (test : A → Bool) (xs : List A) → All P xs → All P (from test xs)
 unfolding from
 All-from P test [] h = All-nil P
 All-from P test (x ∷ xs) h = go (test x) (All-from P test xs (All-tail P x xs h))

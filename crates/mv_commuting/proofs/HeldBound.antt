@@ -30,7 +30,7 @@ use Rattle.mv_commuting.proofs.Steady.{AllFine, hist, this_fact, this_judged}
 
 -- ---- What holds of the decoded units of a layer holds of what is held
 
-held_all : (P : Judged → Type 0) (behind xs : List Judged) → All (λ (e : Judged). e.decoded ≡ true → P e) xs → All (λ (h : Held). P h.it) (held_behind behind xs)
+pub held_all : (P : Judged → Type 0) (behind xs : List Judged) → All (λ (e : Judged). e.decoded ≡ true → P e) xs → All (λ (h : Held). P h.it) (held_behind behind xs)
 unfolding held_behind
 held_all P behind [] all = All-nil (λ (h : Held). P h.it)
 held_all P behind (d ∷ earlier) all = go (d.decoded && list_all (spares d) behind) refl (held_all P (d ∷ behind) earlier (All-tail (λ (e : Judged). e.decoded ≡ true → P e) d earlier all))
@@ -228,7 +228,7 @@ held_next us u n fine rules before = go (of_layer n (this_judged us u)) refl
         subst (λ (hs : List Held). length hs ≤ 16) (sym (layers-held (hist us) (this_fact us u) n is))
         (others (begins (this_judged us u)))
 
-held_at_most : (us : List (List ℕ)) (n : ℕ) → AllFine us → breaks_none (hist us) ≡ true → length (held_of (hist us) n) ≤ 16
+pub held_at_most : (us : List (List ℕ)) (n : ℕ) → AllFine us → breaks_none (hist us) ≡ true → length (held_of (hist us) n) ≤ 16
 unfolding items run all_placed facts history sequence from held_behind
 held_at_most [] n fine h = omega arith
 held_at_most (u ∷ us) n fine h =

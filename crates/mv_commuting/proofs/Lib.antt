@@ -23,6 +23,7 @@ pub mod Places
 pub mod Rising
 pub mod Seats
 pub mod Shown
+pub mod SoFar
 pub mod Steady
 pub mod Turns
 pub mod Whole

@@ -4,4 +4,5 @@
 
 pub mod history_laws;
 pub mod laws;
+pub mod so_far_laws;
 pub mod state_laws;
