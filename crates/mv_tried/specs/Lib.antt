@@ -1,0 +1,4 @@
+pub mod Decoded
+pub mod Finer
+pub mod Segments
+pub mod Tried
