@@ -1,0 +1,5 @@
+pub mod Formats
+pub mod Lines
+pub mod Making
+pub mod Message
+pub mod Showing
