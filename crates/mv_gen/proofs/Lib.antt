@@ -1,0 +1,4 @@
+pub mod HeaderBytes
+pub mod Places
+pub mod Steps
+pub mod Valid

@@ -1,0 +1,7 @@
+pub mod Contexts
+pub mod Draws
+pub mod HeaderBytes
+pub mod Headers
+pub mod ParameterSets
+pub mod Segments
+pub mod Units
