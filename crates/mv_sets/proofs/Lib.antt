@@ -1,0 +1,5 @@
+pub mod Numbers
+pub mod Rooms
+pub mod StoreLaws
+pub mod TableLaws
+pub mod Valid

@@ -1,0 +1,4 @@
+pub mod LatestOf
+pub mod LayerValue
+pub mod Standing
+pub mod Sums

@@ -1,0 +1,4 @@
+pub mod OrderValues
+pub mod OrderSteps
+pub mod Orders
+pub mod Queue
