@@ -1,0 +1,3 @@
+pub mod Told
+pub mod Walking
+pub mod Standing

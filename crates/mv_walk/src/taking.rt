@@ -1,0 +1,256 @@
+//! How a walker takes each kind of unit.
+
+use crate::decoder::FirstSegment;
+use crate::ending::Stop;
+use crate::last::Carried;
+use crate::walker::Walker;
+use mv_au::{AuStep, PicState};
+use mv_contexts::peek_unit;
+use mv_rebuild::{Rebuild, Viewer};
+use mv_rules::Rule;
+use mv_units::UnitHead;
+use mv_walk_segment::{Served, read_later};
+use mv_walk_sets::{CarriedPps, CarriedSps, NewVps, Role, VpsInForce, is_end, pps_of, sps_of, vps_of};
+
+/// What is told of a picture: what becomes of it, and its count, if it has one.
+pub(crate) type Picture = Option<(PicState, Option<i32>)>;
+
+impl<R: Rebuild> Walker<R> {
+    /// Takes a unit by what it is.
+    pub(crate) fn take<V: Viewer<R::Pic>>(
+        &mut self,
+        rebuild: &R,
+        viewer: &mut V,
+        role: Role,
+        head: UnitHead,
+        unit: &[u8],
+    ) -> Result<Picture, Stop> {
+        match role {
+            Role::Stray => self.pass_over(),
+            Role::Passed => self.take_passed(rebuild, viewer, head),
+            Role::Vps => self.take_vps(rebuild, viewer, head, unit),
+            Role::Sps => self.take_sps(rebuild, viewer, head, unit),
+            Role::Pps => self.take_pps(rebuild, viewer, head, unit),
+            Role::Slice => self.take_slice(rebuild, viewer, head, unit),
+        }
+    }
+
+    fn pass_over(&mut self) -> Result<Picture, Stop> {
+        self.last = Carried::Nothing;
+        Ok(None)
+    }
+
+    // A unit that is no slice segment joins its access unit; where it begins one, the one before is complete.
+    fn join<V: Viewer<R::Pic>>(
+        &mut self,
+        rebuild: &R,
+        viewer: &mut V,
+        head: UnitHead,
+    ) -> Result<AuStep, Stop> {
+        let step = match self.units.step(head, None) {
+            Ok(step) => step,
+            Err(rule) => return Err(Stop::Breaks(rule)),
+        };
+        match self.decoder.between(rebuild, viewer, step.begins) {
+            Ok(()) => Ok(step),
+            Err(stop) => Err(stop),
+        }
+    }
+
+    fn take_passed<V: Viewer<R::Pic>>(
+        &mut self,
+        rebuild: &R,
+        viewer: &mut V,
+        head: UnitHead,
+    ) -> Result<Picture, Stop> {
+        if let Err(stop) = self.join(rebuild, viewer, head) {
+            return Err(stop);
+        }
+        self.last = Carried::Nothing;
+        if is_end(head) {
+            self.decoder.eos(head.layer);
+        }
+        Ok(None)
+    }
+
+    fn take_vps<V: Viewer<R::Pic>>(
+        &mut self,
+        rebuild: &R,
+        viewer: &mut V,
+        head: UnitHead,
+        unit: &[u8],
+    ) -> Result<Picture, Stop> {
+        let new = match vps_of(self.alloc, self.vps.as_ref(), head, unit, self.ols) {
+            Ok(new) => new,
+            Err(fault) => return Err(Stop::of_vps(fault)),
+        };
+        match self.join(rebuild, viewer, head) {
+            Ok(step) => Ok(self.put_vps(new, step)),
+            Err(stop) => Err(stop),
+        }
+    }
+
+    fn put_vps(&mut self, new: NewVps, step: AuStep) -> Picture {
+        match new {
+            NewVps::Repeated => self.last = Carried::Nothing,
+            NewVps::First(vps) => self.put_new(vps),
+            NewVps::Changed(vps) => {
+                self.sets.forget();
+                self.changed = Some(step.au);
+                self.put_new(vps);
+            }
+        }
+        None
+    }
+
+    fn put_new(&mut self, vps: VpsInForce) {
+        self.vps = Some(vps);
+        self.last = Carried::Vps;
+    }
+
+    fn take_sps<V: Viewer<R::Pic>>(
+        &mut self,
+        rebuild: &R,
+        viewer: &mut V,
+        head: UnitHead,
+        unit: &[u8],
+    ) -> Result<Picture, Stop> {
+        let Some(vps) = &self.vps else {
+            return Err(Stop::Breaks(Rule::NoVps));
+        };
+        let carried = match sps_of(self.alloc, vps, head, unit) {
+            Ok(carried) => carried,
+            Err(fault) => return Err(Stop::of_read(fault)),
+        };
+        match self.join(rebuild, viewer, head) {
+            Ok(_) => self.put_sps(head.layer, carried),
+            Err(stop) => Err(stop),
+        }
+    }
+
+    fn put_sps(&mut self, layer: u8, carried: CarriedSps) -> Result<Picture, Stop> {
+        let id = carried.value.opening.sps_seq_parameter_set_id;
+        if self
+            .sets
+            .put_sps(layer, &carried.payload, carried.value)
+            .is_err()
+        {
+            return Err(Stop::Memory);
+        }
+        self.last = Carried::Sps { layer, id };
+        Ok(None)
+    }
+
+    fn take_pps<V: Viewer<R::Pic>>(
+        &mut self,
+        rebuild: &R,
+        viewer: &mut V,
+        head: UnitHead,
+        unit: &[u8],
+    ) -> Result<Picture, Stop> {
+        let carried = match pps_of(self.alloc, unit) {
+            Ok(carried) => carried,
+            Err(fault) => return Err(Stop::of_read(fault)),
+        };
+        match self.join(rebuild, viewer, head) {
+            Ok(_) => self.put_pps(head.layer, carried),
+            Err(stop) => Err(stop),
+        }
+    }
+
+    fn put_pps(&mut self, layer: u8, carried: CarriedPps) -> Result<Picture, Stop> {
+        let id = carried.value.opening.pps_pic_parameter_set_id;
+        if self
+            .sets
+            .put_pps(layer, &carried.payload, carried.value)
+            .is_err()
+        {
+            return Err(Stop::Memory);
+        }
+        self.last = Carried::Pps { layer, id };
+        Ok(None)
+    }
+
+    fn take_slice<V: Viewer<R::Pic>>(
+        &mut self,
+        rebuild: &R,
+        viewer: &mut V,
+        head: UnitHead,
+        unit: &[u8],
+    ) -> Result<Picture, Stop> {
+        let peek = match peek_unit(self.alloc, head, unit) {
+            Ok(peek) => peek,
+            Err(fault) => return Err(Stop::of_read(fault)),
+        };
+        if peek.first {
+            self.take_first(rebuild, viewer, head, unit, peek.pps_id)
+        } else {
+            self.take_later(rebuild, head, unit, peek.pps_id)
+        }
+    }
+
+    fn take_first<V: Viewer<R::Pic>>(
+        &mut self,
+        rebuild: &R,
+        viewer: &mut V,
+        head: UnitHead,
+        unit: &[u8],
+        pps_id: u8,
+    ) -> Result<Picture, Stop> {
+        let Some(vps) = &self.vps else {
+            return Err(Stop::Breaks(Rule::NoVps));
+        };
+        let served = match Served::named(self.alloc, &self.sets, &vps.value, head, pps_id) {
+            Ok(served) => served,
+            Err(fault) => return Err(Stop::of_read(fault)),
+        };
+        let header = match served.read(self.alloc, &vps.value, head, unit) {
+            Ok(header) => header,
+            Err(fault) => return Err(Stop::of_read(fault)),
+        };
+        let step = match self.units.step(head, Some(true)) {
+            Ok(step) => step,
+            Err(rule) => return Err(Stop::Breaks(rule)),
+        };
+        let segment = FirstSegment {
+            head,
+            unit,
+            au: step.au,
+            behind_change: self.changed == Some(step.au),
+            served,
+            header,
+        };
+        self.last = Carried::First;
+        match self.decoder.first(rebuild, viewer, vps, step.begins, segment) {
+            Ok(told) => Ok(Some(told)),
+            Err(stop) => Err(stop),
+        }
+    }
+
+    fn take_later(
+        &mut self,
+        rebuild: &R,
+        head: UnitHead,
+        unit: &[u8],
+        pps_id: u8,
+    ) -> Result<Picture, Stop> {
+        let Some(vps) = &self.vps else {
+            return Err(Stop::Breaks(Rule::NoVps));
+        };
+        let picture = self.decoder.picture();
+        let header = match read_later(self.alloc, picture, &self.sets, &vps.value, head, pps_id, unit) {
+            Ok(header) => header,
+            Err(fault) => return Err(Stop::of_read(fault)),
+        };
+        if let Err(rule) = self.units.step(head, Some(false)) {
+            return Err(Stop::Breaks(rule));
+        }
+        match self.decoder.later(rebuild, &vps.value, head, unit, &header) {
+            Ok(()) => {
+                self.last = Carried::Later(header);
+                Ok(None)
+            }
+            Err(stop) => Err(stop),
+        }
+    }
+}
