@@ -2,6 +2,8 @@
 use Rattle.std.proofs.Common.{◌≡◌, ℕ, zero, suc, ◌+◌, ◌<◌, ◌≤◌, Bool, true, false, cond, List, ◌∷◌, length, arith}
 use Rattle.std.specs.List.{All, filter, range_with_len}
 use Rattle.std.proofs.lemmas.List.Elements.{All-cons, All-filter, All-nil}
+use Rattle.std.proofs.lemmas.List.{length-map}
+use Rattle.mv_layers.proofs.Collecting.{passed_more}
 use Rattle.mv_slice.specs.Context.{Rises}
 use Rattle.mv_slice.specs.Layers.{DirectLayer, eligible, layer_at, may_refer}
 
@@ -29,3 +31,5 @@ pub eligible_below : (tid : ℕ) (directs : List DirectLayer) → All (λ i. i <
 eligible_below tid directs =
     All-filter (λ i. may_refer tid (layer_at directs i)) (λ i. i < length directs) (range_with_len 0 (length directs))
     (all_in_range (λ i. i < length directs) 0 (length directs) (λ i low high. omega (arith, high)))
+
+pub ruleset eligible_steps = (passed_more, length-map)

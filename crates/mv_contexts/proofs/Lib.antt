@@ -1,3 +1,4 @@
+pub mod BlockLaws
 pub mod EligibleLaws
 pub mod Fitting
 pub mod FormatLaws

@@ -157,16 +157,24 @@ pub extension_valid : (v : VpsValue) → Valid vps_fields v → Valid (when (is_
 unfolding vps_fields
 extension_valid v h = h.0.1.0
 
+few-all : (v : WholeVps) → ValidVps v → All IsFew v.derived.layers
+few-all v h =
+    let fields : Valid vps_fields v.coded.0 = h.payload.fields in
+    subst (λ d. All IsFew d.layers) (sym h.derived)
+    (few_layers _ (args_of v.coded.0.base) v.coded.0.extension (args_valid v.coded.0.base (base_valid v.coded.0 fields)) (extension_valid v.coded.0 fields))
+
+pub few-directs : (v : WholeVps) (layer : ℕ) → ValidVps v → length (directs_of v.derived.layers layer) ≤ 62
+few-directs v layer h = directs_few v.derived.layers layer (few-all v h)
+
 pub vps-fits : (v : WholeVps) (layer : ℕ) → ValidVps v → is_known v.derived.layers layer ≡ true → VpsFits v layer
 vps-fits v layer h known =
     let fields : Valid vps_fields v.coded.0 = h.payload.fields in
     let args : VpsArgsValue = args_of v.coded.0.base in
     let ext = extension_valid v.coded.0 fields in
-    let few : All IsFew v.derived.layers
-    = subst (λ d. All IsFew d.layers) (sym h.derived) (few_layers _ args v.coded.0.extension (args_valid v.coded.0.base (base_valid v.coded.0 fields)) ext) in
+    let few : All IsFew v.derived.layers = few-all v h in
     record {
       few_layers = known_few v.derived.layers layer few known;
-      few_directs = directs_few v.derived.layers layer few;
+      few_directs = few-directs v layer h;
       poc_lsb_not_present_flag = poc_flag _ args v.coded.0.extension (layer_index v.derived.layers layer) ext;
       default_ref_layers_active_flag = active_flag _ args v.coded.0.extension ext;
       max_one_active_ref_layer_flag = one_flag _ args v.coded.0.extension ext;

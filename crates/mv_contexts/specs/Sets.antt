@@ -1,5 +1,5 @@
 -- Parameter sets that were read, and whose pictures have a size (7.4.3.2.1, F.7.4.3.1.1).
-use Rattle.std.specs.Prelude.{ℕ, ◌≤◌}
+use Rattle.std.specs.Prelude.{ℕ, ◌≤◌, Bool, List, Option}
 use Rattle.mv_common.specs.declared.format.Format.{Format}
 use Rattle.mv_syntax.specs.Payload.{ValidPayload}
 use Rattle.mv_pps.specs.Pps.{pps}
@@ -13,10 +13,12 @@ pub record IsSized (format : Format) : Type 0 where
   pub some_height : 1 ≤ format.height
   pub few_height : format.height ≤ 16384
 
--- the sets that serve a slice segment are valid ones of some layer, and their format is sized
+-- the sets that serve a slice segment are valid ones of some layer, whatever stands behind their fields, and their format is sized
 pub record AreSets (active : ActiveValue) : Type 0 where
   pub layer : ℕ
   pub vps_sub_layers : ℕ
-  pub sps : ValidPayload (sps_payload layer vps_sub_layers) active.sps.value
-  pub pps : ValidPayload pps active.pps.value
+  pub sps_tail : Option (List Bool)
+  pub pps_tail : Option (List Bool)
+  pub sps : ValidPayload (sps_payload layer vps_sub_layers) (active.sps.value.0, sps_tail)
+  pub pps : ValidPayload pps (active.pps.value.0, pps_tail)
   pub format : IsSized active.format

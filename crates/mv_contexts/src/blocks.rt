@@ -8,7 +8,7 @@ use mv_sps::SpsBlocks;
 
 // CtbSizeY.
 fn ctb_side(blocks: &SpsBlocks) -> u32
-    requires small_blocks { blocks.now.log2_min_luma_coding_block_size_minus3 + blocks.now.log2_diff_max_min_luma_coding_block_size ≤ 3 }
+    requires { blocks.now.log2_min_luma_coding_block_size_minus3 + blocks.now.log2_diff_max_min_luma_coding_block_size ≤ 3 }
     ensures is { result ≡ ctb_side blocks.now }
     ensures least { 8 ≤ result }
     ensures most { result ≤ 64 }

@@ -1,3 +1,9 @@
+ghost use Rattle.std.specs.Prelude.{◌≡◌, ◌≤◌, true, IfOk};
+ghost use Rattle.mv_contexts.specs.Sets.{AreSets};
+ghost use Rattle.mv_layers.specs.LayerInfos.{is_known};
+ghost use Rattle.mv_slice.specs.Context.{Fits};
+ghost use Rattle.mv_vps.specs.Vps.{ValidVps};
+
 use super::*;
 use mv_bytestream::{read_head, unescape};
 use mv_common::Format;
@@ -14,12 +20,6 @@ use std::process::Abort;
 use std::rc::Rc;
 use std::test::Fail;
 
-ghost use Rattle.std.specs.Prelude.{◌≡◌, ◌≤◌, true, IfOk};
-ghost use Rattle.mv_contexts.specs.Sets.{AreSets};
-ghost use Rattle.mv_layers.specs.LayerInfos.{is_known};
-ghost use Rattle.mv_slice.specs.Context.{Fits};
-ghost use Rattle.mv_vps.specs.Vps.{ValidVps};
-
 // The units of a stream of two views: its parameter sets.
 static VPS: &[u8] = &[
     0x40, 0x01, 0x0C, 0x11, 0xFF, 0xFF, 0x01, 0x60, 0x00, 0x00, 0x03, 0x00, 0x90, 0x00, 0x00, 0x03,
@@ -27,12 +27,16 @@ static VPS: &[u8] = &[
     0x00, 0x00, 0x09, 0x00, 0x00, 0x03, 0x00, 0x00, 0x03, 0x00, 0x05, 0xD8, 0xD0, 0x04, 0x00, 0x04,
     0x0A, 0x00, 0x89, 0x7D, 0x20,
 ];
+
 static FIRST_SPS: &[u8] = &[
     0x42, 0x01, 0x01, 0x01, 0x60, 0x00, 0x00, 0x03, 0x00, 0x90, 0x00, 0x00, 0x03, 0x00, 0x00, 0x03,
     0x00, 0x5D, 0xA0, 0x20, 0x81, 0x05, 0xEB, 0xAB, 0xC2, 0x08,
 ];
+
 static SECOND_SPS: &[u8] = &[0x42, 0x09, 0x0E, 0x9A, 0xBC, 0x21, 0x40, 0x40];
+
 static FIRST_PPS: &[u8] = &[0x44, 0x01, 0xC0, 0x71, 0x80, 0x12];
+
 static SECOND_PPS: &[u8] = &[0x44, 0x09, 0x48, 0x07, 0x18, 0x01, 0x20];
 
 // A slice unit, and the lines of its header.
@@ -187,13 +191,7 @@ fn reads(
 }
 
 // A unit in a stream of these sets.
-fn holds(
-    rt: &impl Abort,
-    alloc: Global,
-    vps: &Vps,
-    active: &Active,
-    row: &Row,
-) -> Result<(), Fail>
+fn holds(rt: &impl Abort, alloc: Global, vps: &Vps, active: &Active, row: &Row) -> Result<(), Fail>
     requires vps { ValidVps vps.now }
     requires sets { AreSets active.now }
 {
@@ -205,7 +203,10 @@ fn holds(
     }
     let eligible = eligible_layers(alloc, vps, head)?;
     let ctx = slice_context(vps, active, head, eligible.as_slice());
-    assert_eq!(rt; (ctx.directs, ctx.ctbs, ctx.lsb_bits, ctx.chroma), (head.layer, 16, 4, true));
+    assert_eq!(rt;
+        (ctx.directs, ctx.ctbs, ctx.lsb_bits, ctx.chroma),
+        (head.layer, 16, 4, true)
+    );
     assert_eq!(rt; ctx.default_ref_layers_active_flag, 1);
     reads(rt, alloc, &ctx, head, row)
 }
@@ -255,7 +256,10 @@ fn first_fields(rt: HostRuntime) -> Result<(), Fail> {
 }
 
 // The first view's sets, with so many extra bits, and with entry points or without.
-fn plain(num_extra_slice_header_bits: u8, entropy_coding_sync_enabled_flag: u8) -> SliceContext<'static>
+fn plain(
+    num_extra_slice_header_bits: u8,
+    entropy_coding_sync_enabled_flag: u8,
+) -> SliceContext<'static>
     requires bits { num_extra_slice_header_bits ≤ 7 }
     requires flag { entropy_coding_sync_enabled_flag ≤ 1 }
     ensures fits { Fits result }

@@ -33,7 +33,10 @@ const PREVENTED: [u8; 3] = [0, 0, 3];
 fn has_prevented(unit: &[u8]) -> bool
     ensures { result ≡ false → payload unit.now ≡ drop 2 unit.now }
 {
-    memmem::find(unit, &PREVENTED).is_some()
+    match memmem::find(unit, &PREVENTED) {
+        Some(_) => true,
+        None => false,
+    }
 }
 
 // What stands behind the head.

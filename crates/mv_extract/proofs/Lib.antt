@@ -1,4 +1,8 @@
+pub mod Accepted
+pub mod Commuted
 pub mod Ended
-pub mod Kept
+pub mod Keeping
 pub mod Settled
-pub mod Sound
+pub mod Unwritten
+pub mod Visited
+pub mod Walked

@@ -1,8 +1,8 @@
-pub mod AnchorLaws
-pub mod CountLaws
-pub mod StandLaws
+mod AnchorLaws
+mod CountLaws
+mod StandLaws
 pub mod EntryLaws
-pub mod FoundLaws
+mod FoundLaws
 pub mod KeepSteps
 pub mod KeptLaws
 pub mod MatchLaws

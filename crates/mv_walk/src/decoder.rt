@@ -1,58 +1,67 @@
 //! What is decoded of a stream: the pictures of each layer, and the pictures that wait for their output.
+#![tactic(auto)]
+
+ghost use Rattle.std.specs.Prelude.{ℕ, ◌≡◌, ◌≤◌, ◌<◌, ◌+◌, ◌^◌, ◌∷◌, ◌×◌, ⊥, [], true, false, List, All, AllPairs, Some, None, Err, IfOk, IfErr, OnOk, is_some, length, replicate, slice_set};
+ghost use Rattle.std.specs.Option.{IfSome};
+ghost use Rattle.mv_io.specs.Faults.{HasCause};
+ghost use Rattle.mv_pictures.specs.AccessUnits.{Placed};
+ghost use Rattle.mv_pictures.specs.Facts.{Fact};
+ghost use Rattle.mv_pictures.specs.History.{judged};
+ghost use Rattle.mv_pictures.specs.Judged.{Judged};
+ghost use Rattle.mv_pictures.specs.Look.{look};
+ghost use Rattle.mv_pictures.specs.Starts.{is_decoded, is_sequence_start, is_start};
+ghost use Rattle.mv_au.specs.States.{IsEndOf, state_of};
+ghost use Rattle.mv_au.specs.declared.states.PicState.{PicState as PicStateValue};
+ghost use Rattle.mv_walk_layer.specs.LayerValue.{no_pictures, with_decoded};
+ghost use Rattle.mv_walk_sets.specs.InForce.{IsRead};
+ghost use Rattle.mv_walk.specs.Decoders.{Between, BreaksNothing, Closes, DecoderStands, HasHistory, HasViewCause, IsButQueue, IsClosed, Keeps, KeepsPictures, layer_at, made_in};
+ghost use Rattle.mv_walk.specs.Firsts.{CanBegin, Decodes, MayBegin, MayDecode, MayTake, IsDecoded, IsFirst, IsReady, TakesFirst, TakesPicture, TakesState, base_in, latest_by, place, unchanged};
+ghost use Rattle.mv_walk.specs.Laters.{CanAdd, IsNextOf, TakesLater};
+ghost use Rattle.mv_walk.specs.declared.ending.Stop.{Stop as StopValue};
 
 use crate::ending::Stop;
+use crate::first::FirstSegment;
 use crate::making::{Making, begin};
 use mv_au::{LayerStates, PicFacts, PicState};
+use mv_dpb::Shown;
 use mv_rebuild::{Rebuild, Viewer};
 use mv_rps::num_entries;
 use mv_rules::Rule;
-use mv_sets::Active;
 use mv_slice::SliceHead;
 use mv_units::UnitHead;
-use mv_vps::Vps;
 use mv_walk_decoded::{Decided, First, count_asked, decide};
-use mv_walk_layer::{LayerPictures, Latest};
+use mv_walk_layer::{Latest, LayerPictures};
 use mv_walk_order::{OutputOrder, OutputQueue};
-use mv_walk_segment::{DecodedLists, OpenPicture, Served};
+use mv_walk_segment::{DecodedLists, OpenPicture};
 use mv_walk_sets::VpsInForce;
 use std::alloc::{AllocError, Global};
 use std::rc::Rc;
 
 const LAYERS: usize = 64;
 
-/// A picture's first segment, whose header was read.
-#[derive(Drop)]
-pub(crate) struct FirstSegment<'a> {
-    pub(crate) head: UnitHead,
-    pub(crate) unit: &'a [u8],
-    /// The number of its access unit.
-    pub(crate) au: u64,
-    /// A changed video parameter set stands before it in its access unit.
-    pub(crate) behind_change: bool,
-    pub(crate) served: Served,
-    pub(crate) header: SliceHead,
-}
-
 /// The pictures of every layer, and those that wait for their output.
 #[derive(Drop)]
 pub(crate) struct Decoder<R: Rebuild> {
     alloc: Global,
-    ols: u32,
-    states: LayerStates,
-    layers: Vec<LayerPictures<R::Pic>>,
-    order: OutputOrder,
-    queue: OutputQueue<R::Pic>,
+    /// The output layer set that is asked for.
+    pub(crate) asked: u32,
+    pub(crate) states: LayerStates,
+    pub(crate) layers: Vec<LayerPictures<R::Pic>>,
+    pub(crate) order: OutputOrder,
+    pub(crate) queue: OutputQueue<R::Pic>,
     /// PicOrderCntVal of the latest base picture, where it has one in range.
-    base_count: Option<i32>,
+    pub(crate) base_count: Option<i32>,
     /// The latest picture of the access unit, and where it is decoded the picture in the making.
-    picture: Option<OpenPicture>,
-    making: Option<Making<R>>,
-    pictures: u64,
-    sequences: u64,
+    pub(crate) picture: Option<OpenPicture>,
+    pub(crate) making: Option<Making<R>>,
+    pub(crate) pictures: u64,
+    pub(crate) sequences: u64,
 }
 
 // No pictures of any layer.
-fn no_layers<P: Drop>(alloc: Global) -> Result<Vec<LayerPictures<P>>, AllocError> {
+fn no_layers<P: Drop>(alloc: Global) -> Result<Vec<LayerPictures<P>>, AllocError>
+    ensures { IfOk result (λ layers. layers.items ≡ replicate 64 no_pictures) }
+{
     let mut layers = Vec::with_capacity(alloc, LAYERS)?;
     for _ in 0..LAYERS {
         let layer = LayerPictures::new(alloc)?;
@@ -62,18 +71,24 @@ fn no_layers<P: Drop>(alloc: Global) -> Result<Vec<LayerPictures<P>>, AllocError
 }
 
 // A sequence starts: nothing is left of the pictures before.
-fn forget_all<P: Drop>(layers: &mut [LayerPictures<P>]) {
+fn forget_all<P: Drop>(layers: &mut [LayerPictures<P>])
+    ensures { layers.new ≡ replicate (length layers.old) no_pictures }
+{
     for layer in layers.iter_mut() {
         layer.forget();
     }
 }
 
 impl<R: Rebuild> Decoder<R> {
-    pub(crate) fn new(alloc: Global, ols: u32) -> Result<Decoder<R>, AllocError> {
+    /// Nothing is kept of pictures.
+    pub(crate) fn new(alloc: Global, asked: u32) -> Result<Decoder<R>, AllocError>
+        ensures keeps { IfOk result (λ d. IsClosed d []) }
+        ensures asked { IfOk result (λ d. d.asked ≡ asked) }
+    {
         let layers = no_layers(alloc)?;
         Ok(Decoder {
             alloc,
-            ols,
+            asked,
             states: LayerStates::new(),
             layers,
             order: OutputOrder::new(),
@@ -86,15 +101,21 @@ impl<R: Rebuild> Decoder<R> {
         })
     }
 
-    pub(crate) fn picture(&self) -> &Option<OpenPicture> {
+    pub(crate) fn picture(&self) -> &Option<OpenPicture>
+        ensures { result.now ≡ self.now.picture }
+    {
         &self.picture
     }
 
-    pub(crate) fn pictures(&self) -> u64 {
+    pub(crate) fn pictures(&self) -> u64
+        ensures { result ≡ self.now.pictures }
+    {
         self.pictures
     }
 
-    pub(crate) fn sequences(&self) -> u64 {
+    pub(crate) fn sequences(&self) -> u64
+        ensures { result ≡ self.now.sequences }
+    {
         self.sequences
     }
 
@@ -113,12 +134,22 @@ impl<R: Rebuild> Decoder<R> {
         }
     }
 
-    pub(crate) fn eos(&mut self, layer: u8) {
+    /// A sequence ends in a layer, or the bitstream in layer 0.
+    pub(crate) fn eos(&mut self, layer: u8)
+        requires { layer < 64 }
+        ensures keeps { (past : List Judged) (q : Fact) → IsEndOf layer q → Keeps self.old past self.old.making → Keeps self.new (judged past q ∷ past) self.new.making }
+        ensures rest { self.new ≡ record self.old { states = self.new.states } }
+    {
         self.states.eos(layer);
     }
 
     // The latest picture is whole.
-    fn close(&mut self, rebuild: &R) -> Result<(), Stop> {
+    fn close(&mut self, rebuild: &R) -> Result<(), Stop>
+        requires kept { HasHistory self.old self.old.making }
+        ensures closes { OnOk result (Closes self.old self.new) }
+        ensures asked { self.new.asked ≡ self.old.asked }
+        ensures memory { IfErr result (λ stop. stop ≡ StopValue.Memory) }
+    {
         self.picture = None;
         match self.making.take() {
             Some(making) => self.finish(rebuild, making),
@@ -126,7 +157,14 @@ impl<R: Rebuild> Decoder<R> {
         }
     }
 
-    fn finish(&mut self, rebuild: &R, making: Making<R>) -> Result<(), Stop> {
+    fn finish(&mut self, rebuild: &R, making: Making<R>) -> Result<(), Stop>
+        requires kept { HasHistory self.old (Some making) }
+        ensures whole { OnOk result ((past : List Judged) → Keeps self.old past (Some making) → Keeps self.new past None) }
+        ensures picture { self.new.picture ≡ self.old.picture }
+        ensures making { self.new.making ≡ self.old.making }
+        ensures asked { self.new.asked ≡ self.old.asked }
+        ensures memory { IfErr result (λ stop. stop ≡ StopValue.Memory) }
+    {
         let (shown, au, output) = (making.shown, making.au, making.output);
         let pic = match rebuild.finish(self.alloc, making.work) {
             Ok(pic) => pic,
@@ -137,17 +175,38 @@ impl<R: Rebuild> Decoder<R> {
             Err(_) => return Err(Stop::Memory),
         };
         if output {
-            match pic.clone() {
-                Ok(pic) => self.queue.push(shown, au, pic),
-                Err(_) => return Err(Stop::Memory),
+            if let Err(stop) = self.wait(shown, au, &pic) {
+                return Err(stop);
             }
         }
         self.layers[shown.layer as usize].finish(shown.count, au, pic);
         Ok(())
     }
 
+    // A picture waits for its output.
+    fn wait(&mut self, shown: Shown, au: u64, pic: &Rc<R::Pic>) -> Result<(), Stop>
+        ensures rest { IsButQueue self.old self.new }
+        ensures memory { IfErr result (λ stop. stop ≡ StopValue.Memory) }
+    {
+        if !self.queue.has_room() {
+            return Err(Stop::Memory);
+        }
+        let shared: Result<_, _> = pic.clone();
+        match shared {
+            Ok(pic) => {
+                self.queue.push(shown, au, pic);
+                Ok(())
+            }
+            Err(_) => Err(Stop::Memory),
+        }
+    }
+
     // The access unit is complete: what leaves is shown.
-    fn complete<V: Viewer<R::Pic>>(&mut self, viewer: &mut V) -> Result<(), Stop> {
+    fn complete<V: Viewer<R::Pic>>(&mut self, viewer: &mut V) -> Result<(), Stop>
+        ensures rest { IsButQueue self.old self.new }
+        ensures view { IfErr result (λ stop. stop ≡ StopValue.View) }
+        ensures cause { HasCause (V.viewing.faults viewer.old) (V.viewing.faults viewer.new) result }
+    {
         while let Some((shown, pic)) = self.queue.bump() {
             if viewer.show(&shown, &pic).is_err() {
                 return Err(Stop::View);
@@ -157,7 +216,11 @@ impl<R: Rebuild> Decoder<R> {
     }
 
     // All that waits is shown.
-    fn flush<V: Viewer<R::Pic>>(&mut self, viewer: &mut V) -> Result<(), Stop> {
+    fn flush<V: Viewer<R::Pic>>(&mut self, viewer: &mut V) -> Result<(), Stop>
+        ensures rest { IsButQueue self.old self.new }
+        ensures view { IfErr result (λ stop. stop ≡ StopValue.View) }
+        ensures cause { HasCause (V.viewing.faults viewer.old) (V.viewing.faults viewer.new) result }
+    {
         while let Some((shown, pic)) = self.queue.flush() {
             if viewer.show(&shown, &pic).is_err() {
                 return Err(Stop::View);
@@ -172,7 +235,13 @@ impl<R: Rebuild> Decoder<R> {
         rebuild: &R,
         viewer: &mut V,
         begins: bool,
-    ) -> Result<(), Stop> {
+    ) -> Result<(), Stop>
+        requires kept { HasHistory self.old self.old.making }
+        ensures between { OnOk result (Between begins self.old self.new) }
+        ensures asked { self.new.asked ≡ self.old.asked }
+        ensures cause { HasViewCause (V.viewing.faults viewer.old) (V.viewing.faults viewer.new) result }
+        ensures breaks { BreaksNothing result }
+    {
         if !begins {
             return Ok(());
         }
@@ -183,11 +252,13 @@ impl<R: Rebuild> Decoder<R> {
     }
 
     /// The stream ends.
-    pub(crate) fn end<V: Viewer<R::Pic>>(
-        &mut self,
-        rebuild: &R,
-        viewer: &mut V,
-    ) -> Result<(), Stop> {
+    pub(crate) fn end<V: Viewer<R::Pic>>(&mut self, rebuild: &R, viewer: &mut V) -> Result<(), Stop>
+        requires kept { HasHistory self.old self.old.making }
+        ensures closes { OnOk result (Closes self.old self.new) }
+        ensures asked { self.new.asked ≡ self.old.asked }
+        ensures cause { HasViewCause (V.viewing.faults viewer.old) (V.viewing.faults viewer.new) result }
+        ensures breaks { BreaksNothing result }
+    {
         match self.close(rebuild) {
             Ok(()) => self.flush(viewer),
             Err(stop) => Err(stop),
@@ -200,16 +271,28 @@ impl<R: Rebuild> Decoder<R> {
         rebuild: &R,
         viewer: &mut V,
         begins: bool,
-    ) -> Result<(), Stop> {
+    ) -> Result<(), Stop>
+        requires kept { HasHistory self.old self.old.making }
+        ensures closes { OnOk result (Closes self.old self.new) }
+        ensures asked { self.new.asked ≡ self.old.asked }
+        ensures cause { HasViewCause (V.viewing.faults viewer.old) (V.viewing.faults viewer.new) result }
+        ensures breaks { BreaksNothing result }
+    {
         match self.close(rebuild) {
-            Ok(()) => {
-                if begins {
-                    self.complete(viewer)
-                } else {
-                    Ok(())
-                }
-            }
+            Ok(()) => self.complete_if(viewer, begins),
             Err(stop) => Err(stop),
+        }
+    }
+
+    fn complete_if<V: Viewer<R::Pic>>(&mut self, viewer: &mut V, begins: bool) -> Result<(), Stop>
+        ensures rest { IsButQueue self.old self.new }
+        ensures view { IfErr result (λ stop. stop ≡ StopValue.View) }
+        ensures cause { HasCause (V.viewing.faults viewer.old) (V.viewing.faults viewer.new) result }
+    {
+        if begins {
+            self.complete(viewer)
+        } else {
+            Ok(())
         }
     }
 
@@ -217,19 +300,34 @@ impl<R: Rebuild> Decoder<R> {
     fn start_sequence<V: Viewer<R::Pic>>(
         &mut self,
         viewer: &mut V,
-        vps: &Vps,
-        active: &Active,
-    ) -> Result<(), Stop> {
+        vps: &VpsInForce,
+        segment: &FirstSegment,
+    ) -> Result<(), Stop>
+        requires can { CanBegin vps.now segment.now }
+        requires read { IsRead vps.now }
+        ensures ready { (past : List Judged) (p : Fact) → KeepsPictures self.old past None → IsFirst vps.now segment.now past p → is_sequence_start (look past p) p ≡ true →
+            OnOk result (IsReady self.new past p) }
+        ensures states { self.new.states ≡ self.old.states }
+        ensures picture { self.new.picture ≡ self.old.picture }
+        ensures making { self.new.making ≡ self.old.making }
+        ensures asked { self.new.asked ≡ self.old.asked }
+        ensures cause { HasViewCause (V.viewing.faults viewer.old) (V.viewing.faults viewer.new) result }
+        ensures breaks { BreaksNothing result }
+    {
         if let Err(stop) = self.flush(viewer) {
             return Err(stop);
         }
         forget_all(&mut self.layers);
-        self.order.begin(vps, &active.sps.value);
-        let (reorder, outputs) = (self.order.reorder(self.ols), self.order.outputs(self.ols));
+        self.order
+            .begin(&vps.value, &segment.served.active.sps.value);
+        let (reorder, outputs) = (
+            self.order.reorder(self.asked),
+            self.order.outputs(self.asked),
+        );
         if self.queue.begin(self.alloc, reorder, outputs).is_err() {
             return Err(Stop::Memory);
         }
-        self.sequences += 1;
+        self.sequences = self.sequences.wrapping_add(1);
         Ok(())
     }
 
@@ -240,24 +338,32 @@ impl<R: Rebuild> Decoder<R> {
         viewer: &mut V,
         vps: &VpsInForce,
         begins: bool,
-        segment: FirstSegment<'_>,
-    ) -> Result<(PicState, Option<i32>), Stop> {
+        segment: FirstSegment,
+        unit: &[u8],
+    ) -> Result<(PicState, Option<i32>), Stop>
+        requires may { MayBegin self.old vps.now segment }
+        requires can { CanBegin vps.now segment }
+        requires read { IsRead vps.now }
+        requires unit { length unit.now ≤ 2 ^ 24 }
+        ensures takes { (past : List Judged) (p : Fact) → Keeps self.old past self.old.making → IsFirst vps.now segment past p → TakesFirst vps.now past p self.new result }
+        ensures asked { self.new.asked ≡ self.old.asked }
+        ensures cause { HasViewCause (V.viewing.faults viewer.old) (V.viewing.faults viewer.new) result }
+    {
         if let Err(stop) = self.before_picture(rebuild, viewer, begins) {
             return Err(stop);
         }
-        let state = match self.state(&vps.value, &segment) {
+        let state = match self.state(vps, &segment) {
             Ok(state) => state,
             Err(stop) => return Err(stop),
         };
-        match self.taken(rebuild, viewer, vps, state, &segment) {
+        match self.taken(rebuild, viewer, vps, state, &segment, unit) {
             Ok((count, decoded)) => {
-                self.picture = Some(OpenPicture {
-                    head: segment.head,
-                    served: segment.served,
-                    first: segment.header,
-                    address: 0,
+                self.picture = Some(OpenPicture::new(
+                    segment.head,
+                    segment.served,
+                    segment.header,
                     decoded,
-                });
+                ));
                 Ok((state, count))
             }
             Err(stop) => Err(stop),
@@ -265,8 +371,13 @@ impl<R: Rebuild> Decoder<R> {
     }
 
     // What becomes of it. Tries the rule NoIrap.
-    fn state(&mut self, vps: &Vps, segment: &FirstSegment<'_>) -> Result<PicState, Stop> {
-        let ctx = segment.served.context(vps, segment.head);
+    fn state(&mut self, vps: &VpsInForce, segment: &FirstSegment) -> Result<PicState, Stop>
+        requires can { CanBegin vps.now segment.now }
+        requires read { IsRead vps.now }
+        ensures takes { (past : List Judged) (p : Fact) → Keeps self.old past None → IsFirst vps.now segment.now past p → TakesState past p self.new result }
+        ensures rest { self.new ≡ record self.old { states = self.new.states } }
+    {
+        let ctx = segment.served.context(&vps.value, segment.head);
         let entries = match num_entries(self.alloc, &segment.header, &ctx, segment.head.kind) {
             Ok(entries) => entries,
             Err(_) => return Err(Stop::Memory),
@@ -276,7 +387,7 @@ impl<R: Rebuild> Decoder<R> {
             kind: segment.head.kind,
             entries,
         };
-        match self.states.picture(vps, &facts) {
+        match self.states.picture(&vps.value, &facts) {
             Ok(state) => Ok(state),
             Err(rule) => Err(Stop::Breaks(rule)),
         }
@@ -289,15 +400,26 @@ impl<R: Rebuild> Decoder<R> {
         viewer: &mut V,
         vps: &VpsInForce,
         state: PicState,
-        segment: &FirstSegment<'_>,
-    ) -> Result<(Option<i32>, Option<DecodedLists>), Stop> {
+        segment: &FirstSegment,
+        unit: &[u8],
+    ) -> Result<(Option<i32>, Option<DecodedLists>), Stop>
+        requires may { MayTake self.old vps.now segment.now state }
+        requires can { CanBegin vps.now segment.now }
+        requires read { IsRead vps.now }
+        requires unit { length unit.now ≤ 2 ^ 24 }
+        ensures takes { (past : List Judged) (p : Fact) → KeepsPictures self.old past None → IsFirst vps.now segment.now past p → state ≡ state_of (look past p) p → self.old.making ≡ None →
+            TakesPicture past p self.new result }
+        ensures states { self.new.states ≡ self.old.states }
+        ensures asked { self.new.asked ≡ self.old.asked }
+        ensures cause { HasViewCause (V.viewing.faults viewer.old) (V.viewing.faults viewer.new) result }
+    {
         match state {
-            PicState::Skipped => self.skip(&vps.value, segment),
-            PicState::Decoded => match self.decode(rebuild, vps, segment, false) {
+            PicState::Skipped => self.skip(vps, segment),
+            PicState::Decoded => match self.decode(rebuild, vps, segment, unit, false) {
                 Ok(taken) => self.unchanged(segment, taken),
                 Err(stop) => Err(stop),
             },
-            PicState::Start => self.start(rebuild, viewer, vps, segment),
+            PicState::Start => self.start(rebuild, viewer, vps, segment, unit),
         }
     }
 
@@ -307,47 +429,73 @@ impl<R: Rebuild> Decoder<R> {
         rebuild: &R,
         viewer: &mut V,
         vps: &VpsInForce,
-        segment: &FirstSegment<'_>,
-    ) -> Result<(Option<i32>, Option<DecodedLists>), Stop> {
+        segment: &FirstSegment,
+        unit: &[u8],
+    ) -> Result<(Option<i32>, Option<DecodedLists>), Stop>
+        requires may { MayTake self.old vps.now segment.now PicStateValue.Start }
+        requires can { CanBegin vps.now segment.now }
+        requires read { IsRead vps.now }
+        requires unit { length unit.now ≤ 2 ^ 24 }
+        ensures takes { (past : List Judged) (p : Fact) → KeepsPictures self.old past None → IsFirst vps.now segment.now past p → is_start (look past p) p ≡ true → TakesPicture past p self.new result }
+        ensures states { self.new.states ≡ self.old.states }
+        ensures asked { self.new.asked ≡ self.old.asked }
+        ensures cause { HasViewCause (V.viewing.faults viewer.old) (V.viewing.faults viewer.new) result }
+    {
         if segment.head.layer == 0 {
-            if let Err(stop) = self.start_sequence(viewer, &vps.value, &segment.served.active) {
+            if let Err(stop) = self.start_sequence(viewer, vps, segment) {
                 return Err(stop);
             }
         }
-        self.decode(rebuild, vps, segment, true)
+        self.decode(rebuild, vps, segment, unit, true)
     }
 
     // A base picture that starts no sequence. Tries the rule VpsMidCvs.
-    fn unchanged<T: Drop>(&self, segment: &FirstSegment<'_>, taken: T) -> Result<T, Stop> {
+    fn unchanged<T: Drop>(&self, segment: &FirstSegment, taken: T) -> Result<T, Stop>
+        ensures { result ≡ unchanged segment.now taken }
+    {
         if segment.head.layer == 0 && segment.behind_change {
             return Err(Stop::Breaks(Rule::VpsMidCvs));
         }
         Ok(taken)
     }
 
-    fn place(&self, segment: &FirstSegment<'_>, start: bool) -> First {
+    // The count of the base picture of the access unit, for a picture of another layer.
+    fn base_for(&self, layer: u8) -> Option<i32>
+        ensures { result ≡ base_in self.now.base_count layer }
+    {
+        if layer == 0 { None } else { self.base_count }
+    }
+
+    fn place(&self, segment: &FirstSegment, start: bool) -> First
+        ensures { result ≡ place self.now.base_count segment.now start }
+    {
         First {
             head: segment.head,
             au: segment.au,
             start,
-            base: if segment.head.layer == 0 {
-                None
-            } else {
-                self.base_count
-            },
+            base: self.base_for(segment.head.layer),
         }
     }
 
     // A picture that isn't decoded. One of layer 0 has a count, where it is in range.
     fn skip(
         &mut self,
-        vps: &Vps,
-        segment: &FirstSegment<'_>,
-    ) -> Result<(Option<i32>, Option<DecodedLists>), Stop> {
+        vps: &VpsInForce,
+        segment: &FirstSegment,
+    ) -> Result<(Option<i32>, Option<DecodedLists>), Stop>
+        requires kept { length self.old.layers.items ≡ 64 }
+        requires can { CanBegin vps.now segment.now }
+        requires read { IsRead vps.now }
+        ensures takes { (past : List Judged) (p : Fact) → KeepsPictures self.old past None → IsFirst vps.now segment.now past p → is_decoded (look past p) p ≡ false → self.old.making ≡ None →
+            TakesPicture past p self.new result }
+        ensures states { self.new.states ≡ self.old.states }
+        ensures asked { self.new.asked ≡ self.old.asked }
+        ensures breaks { result ≡ Err StopValue.View → ⊥ }
+    {
         if segment.head.layer != 0 {
             return Ok((None, None));
         }
-        let ctx = segment.served.context(vps, segment.head);
+        let ctx = segment.served.context(&vps.value, segment.head);
         let asked = count_asked(self.place(segment, false), &ctx, &segment.header);
         let count = self.layers[0].count(&asked).ok();
         self.base_count = count;
@@ -359,9 +507,19 @@ impl<R: Rebuild> Decoder<R> {
         &mut self,
         rebuild: &R,
         vps: &VpsInForce,
-        segment: &FirstSegment<'_>,
+        segment: &FirstSegment,
+        unit: &[u8],
         start: bool,
-    ) -> Result<(Option<i32>, Option<DecodedLists>), Stop> {
+    ) -> Result<(Option<i32>, Option<DecodedLists>), Stop>
+        requires may { MayDecode self.old vps.now segment.now start }
+        requires can { CanBegin vps.now segment.now }
+        requires read { IsRead vps.now }
+        requires unit { length unit.now ≤ 2 ^ 24 }
+        ensures decodes { (past : List Judged) (p : Fact) → IsReady self.old past p → IsFirst vps.now segment.now past p → IsDecoded start past p → Decodes past p self.new result }
+        ensures states { self.new.states ≡ self.old.states }
+        ensures asked { self.new.asked ≡ self.old.asked }
+        ensures breaks { result ≡ Err StopValue.View → ⊥ }
+    {
         let place = self.place(segment, start);
         let ctx = segment.served.context(&vps.value, segment.head);
         let decided = match decide(
@@ -380,25 +538,54 @@ impl<R: Rebuild> Decoder<R> {
         if segment.head.layer == 0 {
             self.base_count = Some(decided.count);
         }
-        self.begin(rebuild, vps, segment, start, decided)
+        self.begin(rebuild, vps, segment, unit, start, decided)
     }
 
+    // It is in the making.
     fn begin(
         &mut self,
         rebuild: &R,
         vps: &VpsInForce,
-        segment: &FirstSegment<'_>,
+        segment: &FirstSegment,
+        unit: &[u8],
         start: bool,
         decided: Decided,
-    ) -> Result<(Option<i32>, Option<DecodedLists>), Stop> {
+    ) -> Result<(Option<i32>, Option<DecodedLists>), Stop>
+        requires all { length self.old.layers.items ≡ 64 }
+        requires can { CanBegin vps.now segment.now }
+        requires read { IsRead vps.now }
+        requires unit { length unit.now ≤ 2 ^ 24 }
+        requires rising { AllPairs (λ k l. k.place < l.place) decided.resolved.keep.items }
+        requires within { All (λ k. k.place < length (layer_at self.old.layers.items segment.now.head.layer).buffer) decided.resolved.keep.items }
+        requires few { (length decided.lists.list0 ≤ 15) × (length decided.lists.list1 ≤ 15) }
+        ensures told { IfOk result (λ told. told ≡ (Some decided.count, Some (record { sizes = decided.sizes; lists = decided.lists }))) }
+        ensures making { OnOk result (IfSome self.new.making (λ m. made_in segment.now.head.layer m ≡ Some (decided.count, segment.now.au))) }
+        ensures made { OnOk result (is_some self.new.making ≡ true) }
+        ensures pictures { OnOk result (self.old.pictures + 1 < 2 ^ 64 → self.new.pictures ≡ self.old.pictures + 1) }
+        ensures layers { OnOk result (self.new.layers.items
+            ≡ slice_set self.old.layers.items segment.now.head.layer (with_decoded start decided.resolved.keep.items (latest_by segment.now) (layer_at self.old.layers.items segment.now.head.layer))) }
+        ensures rest { self.new ≡ record self.old { layers = self.new.layers; making = self.new.making; pictures = self.new.pictures } }
+        ensures memory { IfErr result (λ stop. stop ≡ StopValue.Memory) }
+    {
         let active = &segment.served.active;
         let sequence = self.sequences.saturating_sub(1);
-        let output = decided.put_out && self.order.puts_out(self.ols, segment.head.layer);
-        let making = match begin(rebuild, self.alloc, &self.layers, vps, segment, &decided, sequence, output) {
+        let output = decided.put_out && self.order.puts_out(self.asked, segment.head.layer);
+        let making = match begin(
+            rebuild,
+            self.alloc,
+            &self.layers,
+            vps,
+            segment,
+            unit,
+            &decided,
+            sequence,
+            output,
+        ) {
             Ok(making) => making,
             Err(_) => return Err(Stop::Memory),
         };
-        let sps = match active.sps.clone() {
+        let sps: Result<_, _> = active.sps.clone();
+        let sps = match sps {
             Ok(sps) => sps,
             Err(_) => return Err(Stop::Memory),
         };
@@ -409,7 +596,7 @@ impl<R: Rebuild> Decoder<R> {
         };
         self.layers[segment.head.layer as usize].decode(start, &decided.resolved.keep, latest);
         self.making = Some(making);
-        self.pictures += 1;
+        self.pictures = self.pictures.wrapping_add(1);
         Ok((
             Some(decided.count),
             Some(DecodedLists {
@@ -423,15 +610,21 @@ impl<R: Rebuild> Decoder<R> {
     pub(crate) fn later(
         &mut self,
         rebuild: &R,
-        vps: &Vps,
+        vps: &VpsInForce,
         head: UnitHead,
         unit: &[u8],
         header: &SliceHead,
-    ) -> Result<(), Stop> {
+    ) -> Result<(), Stop>
+        requires can { CanAdd vps.now.value self.old.picture head header.now }
+        requires read { IsRead vps.now }
+        requires unit { length unit.now ≤ 2 ^ 24 }
+        ensures takes { (past : List Judged) (q : Placed) → DecoderStands self.old (Some vps.now) past q.au → IsNextOf vps.now.value self.old.picture head header.now past q → TakesLater vps.now past q self.new result }
+        ensures asked { self.new.asked ≡ self.old.asked }
+    {
         let Some(picture) = &mut self.picture else {
             return Err(Stop::Breaks(Rule::OrphanSlice));
         };
-        if let Err(fault) = picture.add(self.alloc, vps, head, header) {
+        if let Err(fault) = picture.add(self.alloc, &vps.value, head, header) {
             return Err(Stop::of_segment(fault));
         }
         match (&mut self.making, &picture.decoded) {

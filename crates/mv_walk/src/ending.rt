@@ -1,4 +1,8 @@
 //! Why a walk ends.
+#![tactic(auto)]
+
+ghost use Rattle.std.specs.Prelude.{◌≡◌};
+ghost use Rattle.mv_walk.specs.Ending.{error_of, of_decided, of_read, of_segment, of_vps};
 
 use mv_rules::{ReadFault, Refusal, Rule};
 use mv_walk_decoded::DecideFault;
@@ -33,7 +37,9 @@ pub(crate) enum Stop {
 
 impl Stop {
     /// The same of what a unit carries.
-    pub(crate) fn of_read(fault: ReadFault) -> Stop {
+    pub(crate) fn of_read(fault: ReadFault) -> Stop
+        ensures { result ≡ of_read fault }
+    {
         match fault {
             ReadFault::Refused(rule) => Stop::Breaks(rule),
             ReadFault::Memory => Stop::Memory,
@@ -41,7 +47,9 @@ impl Stop {
     }
 
     /// The same of a video parameter set.
-    pub(crate) fn of_vps(fault: VpsFault) -> Stop {
+    pub(crate) fn of_vps(fault: VpsFault) -> Stop
+        ensures { result ≡ of_vps fault }
+    {
         match fault {
             VpsFault::Refused(rule) => Stop::Breaks(rule),
             VpsFault::NoSuchSet { asked, count } => Stop::Lacks { asked, count },
@@ -50,7 +58,9 @@ impl Stop {
     }
 
     /// The same of a decoded picture.
-    pub(crate) fn of_decided(fault: DecideFault) -> Stop {
+    pub(crate) fn of_decided(fault: DecideFault) -> Stop
+        ensures { result ≡ of_decided fault }
+    {
         match fault {
             DecideFault::Refused(rule) => Stop::Breaks(rule),
             DecideFault::Memory => Stop::Memory,
@@ -58,7 +68,9 @@ impl Stop {
     }
 
     /// The same of a later segment.
-    pub(crate) fn of_segment(fault: SegmentFault) -> Stop {
+    pub(crate) fn of_segment(fault: SegmentFault) -> Stop
+        ensures { result ≡ of_segment fault }
+    {
         match fault {
             SegmentFault::Refused(rule) => Stop::Breaks(rule),
             SegmentFault::Memory => Stop::Memory,
@@ -67,7 +79,9 @@ impl Stop {
 }
 
 /// What is answered where the unit with this number and place isn't taken.
-pub(crate) fn error_of(stop: Stop, unit: u64, byte: u64) -> WalkError {
+pub(crate) fn error_of(stop: Stop, unit: u64, byte: u64) -> WalkError
+    ensures { result ≡ error_of stop unit byte }
+{
     match stop {
         Stop::Breaks(rule) => WalkError::Refused(Refusal { unit, byte, rule }),
         Stop::Lacks { asked, count } => WalkError::NoSuchSet { asked, count },

@@ -2,8 +2,11 @@
 //! it (H.265 clauses 7, 8 and C.5.2, Annexes F and G).
 #![tactic(auto)]
 
+mod calls;
+mod course;
 mod decoder;
 mod ending;
+mod first;
 mod last;
 mod making;
 mod step;

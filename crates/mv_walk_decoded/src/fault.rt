@@ -1,7 +1,8 @@
 //! Why a picture isn't decoded.
+#![tactic(auto)]
 
-use mv_reflists::ListFault;
-use mv_rps::RefFault;
+ghost use Rattle.std.specs.Prelude.{◌≡◌};
+
 use mv_rules::Rule;
 
 /// Why a picture isn't decoded.
@@ -11,22 +12,4 @@ pub enum DecideFault {
     Refused(Rule),
     /// The allocator refused memory.
     Memory,
-}
-
-impl DecideFault {
-    /// The same of a reference picture set.
-    pub(crate) fn of_references(fault: RefFault) -> DecideFault {
-        match fault {
-            RefFault::Refused(rule) => DecideFault::Refused(rule),
-            RefFault::Memory => DecideFault::Memory,
-        }
-    }
-
-    /// The same of inter-layer references and lists.
-    pub(crate) fn of_lists(fault: ListFault) -> DecideFault {
-        match fault {
-            ListFault::Refused(rule) => DecideFault::Refused(rule),
-            ListFault::Memory => DecideFault::Memory,
-        }
-    }
 }

@@ -11,3 +11,4 @@ mod references;
 pub use asked::{First, count_asked};
 pub use decided::{Decided, decide};
 pub use fault::DecideFault;
+

@@ -1,5 +1,5 @@
 -- Parameter sets as they are kept: a unit's payload, and what was read there.
-use Rattle.std.specs.Prelude.{◌×◌, ℕ, Bool, List, Option, Some, None, Ok, option_map, ⊤}
+use Rattle.std.specs.Prelude.{ℕ, Bool, List, Option, Some, None, Ok, option_map, ⊤}
 use Rattle.mv_syntax.specs.Bits.{byte_bits}
 use Rattle.mv_syntax.specs.Payload.{ReadsPayload}
 use Rattle.mv_vps.specs.Vps.{WholeVps, ValidVps, vps}

@@ -3,4 +3,4 @@ pub mod Roles
 pub mod Readings
 pub mod Steps
 pub mod Taken
-pub mod Tried
+pub mod Cuts

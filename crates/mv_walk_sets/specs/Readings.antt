@@ -1,22 +1,26 @@
 -- What is answered of a parameter set's payload, and of the unit around it.
-use Rattle.std.specs.Prelude.{◌≡◌, ⊤, tt, ⊥, ◌⊎◌, ◌×◌, ℕ, ◌&&◌, Bool, true, false, List, length, Option, Some, None, Result, Ok, Err, nat_eq, nat_lt, if◌then◌else◌}
+use Rattle.std.specs.Prelude.{◌≡◌, ⊤, ◌⊎◌, ℕ, ◌&&◌, Bool, true, false, List, length, Option, Some, None, Result, Ok, Err, nat_eq, nat_lt, if◌then◌else◌}
 use Rattle.mv_syntax.specs.Bits.{Fault, short, breaks, byte_bits}
 use Rattle.mv_syntax.specs.inner.PayloadReader.{read_payload}
 use Rattle.mv_rules.specs.Rule.{rule_number}
 use Rattle.mv_rules.specs.declared.rule.Rule.{Rule}
 use Rattle.mv_rules.specs.declared.refusal.ReadFault.{ReadFault}
 use Rattle.mv_rules.specs.declared.refusal.ReadFault.TheVariants.{Refused, Memory as out_of_memory}
-use Rattle.mv_vps.specs.Vps.{WholeVps, vps}
+use Rattle.mv_vps.specs.Vps.{VpsValue, WholeVps, vps}
 use Rattle.mv_sps.specs.Sps.{SpsValue, sps_payload}
 use Rattle.mv_pps.specs.Pps.{PpsValue, pps}
 use Rattle.mv_pictures.specs.Carried.{whole_vps}
+use Rattle.mv_walk_sets.specs.InForce.{VpsInForceValue}
 use Rattle.mv_walk_sets.specs.declared.fault.VpsFault.{VpsFault}
 
 -- ---- Payloads
 
 -- what a payload reads as
+abbrev pub as_whole : Result (VpsValue × Option (List Bool)) Fault → Result WholeVps Fault
+as_whole reading = elim reading [ Ok v ↦ Ok (whole_vps v) | Err fault ↦ Err fault ]
+
 unfoldable pub vps_reading : List ℕ → Result WholeVps Fault
-vps_reading p = elim (read_payload vps (byte_bits p)) [ Ok v ↦ Ok (whole_vps v) | Err fault ↦ Err fault ]
+vps_reading p = as_whole (read_payload vps (byte_bits p))
 
 abbrev pub sps_reading : ℕ → ℕ → List ℕ → Result (SpsValue × Option (List Bool)) Fault
 sps_reading layer vps_sub_layers p = read_payload (sps_payload layer vps_sub_layers) (byte_bits p)
@@ -56,6 +60,11 @@ abbrev pub ReadsVps : ℕ → ℕ → Result WholeVps Fault → Result WholeVps 
 ReadsVps asked tid reading (Ok v) = (reading ≡ Ok v) × (checked asked tid (length v.derived.sets) ≡ Ok tt)
 ReadsVps asked tid reading (Err fault) =
     IsOfPayload reading fault ⊎ ((v : WholeVps) × (reading ≡ Ok v) × (checked asked tid (length v.derived.sets) ≡ Err fault))
+
+-- the same, with the payload
+abbrev pub ReadsNew : ℕ → ℕ → List ℕ → Result VpsInForceValue VpsFault → Type 0
+ReadsNew asked tid p (Ok new) = (new.payload ≡ p) × (vps_reading p ≡ Ok new.value) × (checked asked tid (length new.value.derived.sets) ≡ Ok tt)
+ReadsNew asked tid p (Err fault) = ReadsVps asked tid (vps_reading p) (Err fault)
 
 -- ---- Sequence parameter sets: TemporalId comes before the limit rule, and behind every other
 

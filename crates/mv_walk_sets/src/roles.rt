@@ -77,7 +77,7 @@ fn role_of_kind(kind: u8) -> Role
 
 #[tactic(auto, unfolding(crate::specs::InForce::in_force))]
 fn lacks_vps(vps: Option<&VpsInForce>, head: UnitHead) -> bool
-    ensures { result ≡ (is_none (in_force (option_copied vps)) && head_needs_vps head) }
+    ensures { result ≡ (is_none (in_force (option_copied vps.entry)) && head_needs_vps head) }
 {
     match vps {
         Some(_) => false,
@@ -88,7 +88,7 @@ fn lacks_vps(vps: Option<&VpsInForce>, head: UnitHead) -> bool
 #[tactic(auto, unfolding(crate::specs::Roles::role_at))]
 fn role_at(vps: Option<&VpsInForce>, head: UnitHead) -> Result<Role, Rule>
     requires { AreRead (option_copied vps) }
-    ensures { result ≡ role_at (in_force (option_copied vps)) head }
+    ensures { result ≡ role_at (in_force (option_copied vps.entry)) head }
 {
     if is_vps(head) {
         return Ok(Role::Vps);
@@ -108,8 +108,8 @@ fn role_at(vps: Option<&VpsInForce>, head: UnitHead) -> Result<Role, Rule>
 /// and no video parameter set of layer 0 (this project's profile).
 pub fn role_of(vps: Option<&VpsInForce>, head: UnitHead) -> Result<Role, Rule>
     requires { AreRead (option_copied vps) }
-    ensures role { (past : List Item) (u : List ℕ) → StandsBehind (in_force (option_copied vps)) head past u → result ≡ role (item past u) }
-    ensures decides { (past : List Item) (u : List ℕ) (f : Fact) → StandsBehind (in_force (option_copied vps)) head past u → bad_head u ≡ false →
+    ensures role { (past : List Item) (u : List ℕ) → StandsBehind (in_force (option_copied vps.entry)) head past u → result ≡ role (item past u) }
+    ensures decides { (past : List Item) (u : List ℕ) (f : Fact) → StandsBehind (in_force (option_copied vps.entry)) head past u → bad_head u ≡ false →
         IsFactOf (item past u) f → Decides (item past u) f result }
 {
     role_at(vps, head)

@@ -44,10 +44,7 @@ impl Model for CarriedSps {
 fn names_other_vps(payload: &[u8], vps: &Vps) -> bool
     ensures { result ≡ names_other_vps payload.now vps.now }
 {
-    match payload.first() {
-        Some(first) => *first / 16 != vps.base.opening.vps_video_parameter_set_id,
-        None => false,
-    }
+    payload.len() > 0 && payload[0] / 16 != vps.base.opening.vps_video_parameter_set_id
 }
 
 // TemporalId above 0 comes before a limit, and behind every other rule.
@@ -64,12 +61,15 @@ fn read(alloc: Global, layer: u8, vps: &Vps, payload: &[u8]) -> Result<Sps, Read
     requires { ValidVps vps.now }
     ensures { Reads SpsSyntax (sps_reading layer vps.now.coded.0.base.opening.vps_max_sub_layers_minus1 payload.now) result }
 {
-    read_sps(
-        alloc,
-        layer,
-        vps.base.opening.vps_max_sub_layers_minus1,
-        payload,
-    )
+    read_sps(alloc, layer, subs_of(vps), payload)
+}
+
+fn subs_of(vps: &Vps) -> u8
+    requires { ValidVps vps.now }
+    ensures value { result ≡ vps.now.coded.0.base.opening.vps_max_sub_layers_minus1 }
+    ensures few { result ≤ 6 }
+{
+    vps.base.opening.vps_max_sub_layers_minus1
 }
 
 fn value_of(alloc: Global, vps: &Vps, head: UnitHead, payload: &[u8]) -> Result<Sps, ReadFault>
@@ -99,11 +99,9 @@ pub fn sps_of(
     head: UnitHead,
     unit: &[u8],
 ) -> Result<CarriedSps, ReadFault>
-    requires sps { is_sps_kind head.kind ≡ true }
-    requires read { IsRead vps.now }
-    requires head { bad_head unit.now ≡ false }
-    ensures { (past : List Item) (f : Fact) → StandsBehind (Some (carried_of vps.now)) head past unit.now → is_known (item past unit.now) ≡ true →
-        IsFactOf (item past unit.now) f → TakesSps (item past unit.now) f result }
+    requires { IsRead vps.now }
+    ensures { (past : List Item) (f : Fact) → StandsBehind (Some (carried_of vps.now)) head past unit.now → is_sps_kind head.kind ≡ true → bad_head unit.now ≡ false →
+        is_known (item past unit.now) ≡ true → IsFactOf (item past unit.now) f → TakesSps (item past unit.now) f result }
 {
     let payload = match unescape(alloc, unit) {
         Ok(payload) => payload,

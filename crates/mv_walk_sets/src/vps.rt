@@ -1,16 +1,16 @@
 //! Units that are video parameter sets.
 #![tactic(auto)]
 
-ghost use Rattle.std.specs.Prelude.{◌≡◌, true, false, List, ℕ, length, IfOk};
+ghost use Rattle.std.specs.Prelude.{◌≡◌, Some, true, false, List, ℕ, length, IfOk};
 ghost use Rattle.std.specs.Option.{option_copied};
 ghost use Rattle.mv_units.specs.Rules.{bad_head};
 ghost use Rattle.mv_rules.specs.declared.rule.Rule.TheVariants.{VpsSyntax};
 ghost use Rattle.mv_vps.specs.Vps.{ValidVps};
 ghost use Rattle.mv_pictures.specs.Items.{Item, is_vps_head, item};
-ghost use Rattle.mv_walk_sets.specs.InForce.{AreRead, in_force};
-ghost use Rattle.mv_walk_sets.specs.Readings.{Reads, ReadsVps, checked, checked_tid, fault_of, vps_reading};
+ghost use Rattle.mv_walk_sets.specs.InForce.{AreRead, IsRead, in_force};
+ghost use Rattle.mv_walk_sets.specs.Readings.{Reads, ReadsNew, ReadsVps, checked, checked_tid, fault_of, vps_reading};
 ghost use Rattle.mv_walk_sets.specs.Roles.{StandsBehind};
-ghost use Rattle.mv_walk_sets.specs.Taken.{TakesVps};
+ghost use Rattle.mv_walk_sets.specs.Taken.{IsNewRead, IsVpsOf, TakesVps};
 
 use crate::fault::VpsFault;
 use crate::in_force::VpsInForce;
@@ -86,6 +86,21 @@ fn value_of(alloc: Global, tid: u8, payload: &[u8], asked: u32) -> Result<Vps, V
     }
 }
 
+fn read_new(
+    alloc: Global,
+    tid: u8,
+    payload: Vec<u8>,
+    asked: u32,
+) -> Result<VpsInForce, VpsFault>
+    ensures reads { ReadsNew asked tid payload.items result }
+    ensures read { IfOk result (λ v. IsRead v) }
+{
+    match value_of(alloc, tid, &payload, asked) {
+        Ok(value) => Ok(VpsInForce { payload, value }),
+        Err(fault) => Err(fault),
+    }
+}
+
 /// Takes a unit that is a video parameter set of layer 0, behind units of which this video parameter set is in force, where output
 /// layer set `asked` is asked for.
 ///
@@ -99,31 +114,41 @@ pub fn vps_of(
     unit: &[u8],
     asked: u32,
 ) -> Result<NewVps, VpsFault>
-    requires vps { is_vps_head head ≡ true }
-    requires read { AreRead (option_copied before) }
-    requires head { bad_head unit.now ≡ false }
-    ensures { (past : List Item) → StandsBehind (in_force (option_copied before)) head past unit.now → TakesVps asked (item past unit.now) result }
+    ensures takes { (past : List Item) → StandsBehind (in_force (option_copied before.entry)) head past unit.now → AreRead (option_copied before.entry) → is_vps_head head ≡ true →
+        bad_head unit.now ≡ false → TakesVps asked (item past unit.now) result }
+    ensures read { IsNewRead result }
 {
     let payload = match unescape(alloc, unit) {
         Ok(payload) => payload,
         Err(_) => return Err(VpsFault::Memory),
     };
     match before {
-        None => match value_of(alloc, head.tid, &payload, asked) {
-            Ok(value) => Ok(NewVps::First(VpsInForce { payload, value })),
+        None => match read_new(alloc, head.tid, payload, asked) {
+            Ok(new) => Ok(NewVps::First(new)),
             Err(fault) => Err(fault),
         },
-        Some(old) => {
-            if old.payload == payload {
-                return match check_tid(head.tid) {
-                    Ok(()) => Ok(NewVps::Repeated),
-                    Err(fault) => Err(fault),
-                };
-            }
-            match value_of(alloc, head.tid, &payload, asked) {
-                Ok(value) => Ok(NewVps::Changed(VpsInForce { payload, value })),
-                Err(fault) => Err(fault),
-            }
-        }
+        Some(old) => behind(alloc, old, head.tid, payload, asked),
+    }
+}
+
+fn behind(
+    alloc: Global,
+    old: &VpsInForce,
+    tid: u8,
+    payload: Vec<u8>,
+    asked: u32,
+) -> Result<NewVps, VpsFault>
+    ensures takes { (i : Item) → IsVpsOf i (Some old.now) tid payload.items → IsRead old.now → TakesVps asked i result }
+    ensures read { IsNewRead result }
+{
+    if old.payload == payload {
+        return match check_tid(tid) {
+            Ok(()) => Ok(NewVps::Repeated),
+            Err(fault) => Err(fault),
+        };
+    }
+    match read_new(alloc, tid, payload, asked) {
+        Ok(new) => Ok(NewVps::Changed(new)),
+        Err(fault) => Err(fault),
     }
 }

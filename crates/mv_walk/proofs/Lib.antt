@@ -1,0 +1,3 @@
+pub mod Objecting
+pub mod OneMore
+pub mod Others
