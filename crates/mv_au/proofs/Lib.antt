@@ -1,3 +1,5 @@
 pub mod AgreementLaws
+pub mod PpsLaws
+pub mod SpsLaws
 pub mod StateLaws
 pub mod TrackerLaws

@@ -1,8 +1,4 @@
-pub mod Accepted
-pub mod Commuted
 pub mod Ended
-pub mod Keeping
+pub mod Kept
 pub mod Settled
-pub mod Unwritten
-pub mod Visited
-pub mod Walked
+pub mod Sound

@@ -36,4 +36,6 @@ pub nobody-sound : (f : Format) → IsFormat f → IsSound f nobody
 nobody-sound f is = record {
   format = is;
   late = record { late = λ before u rule e. absurd (cc); ending = λ us rule e. absurd (cc) };
+  unit = λ before u why e. absurd (cc);
+  ending = λ us why e. absurd (cc);
 }

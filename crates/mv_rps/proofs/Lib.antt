@@ -1,8 +1,8 @@
-mod AnchorLaws
-mod CountLaws
-mod StandLaws
+pub mod AnchorLaws
+pub mod CountLaws
+pub mod StandLaws
 pub mod EntryLaws
-mod FoundLaws
+pub mod FoundLaws
 pub mod KeepSteps
 pub mod KeptLaws
 pub mod MatchLaws

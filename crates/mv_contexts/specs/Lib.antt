@@ -1,5 +1,0 @@
-pub mod PpsFits
-pub mod Sets
-pub mod SpsFits
-pub mod Units
-pub mod VpsFits

@@ -1,3 +1,0 @@
-pub mod Objecting
-pub mod OneMore
-pub mod Others

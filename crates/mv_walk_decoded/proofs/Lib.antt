@@ -1,9 +1,0 @@
-pub mod Lower
-pub mod Steps
-pub mod Counting
-pub mod Headers
-pub mod Across
-pub mod Holding
-pub mod Listing
-pub mod Ordering
-pub mod Deciding

@@ -1,5 +1,0 @@
-pub mod Asked
-pub mod Actives
-pub mod Making
-pub mod Made
-pub mod Decided
