@@ -8,6 +8,3 @@ mod sets;
 
 pub use orders::OutputOrder;
 pub use queue::OutputQueue;
-
-#[cfg(test)]
-mod tests;
