@@ -1,7 +1,5 @@
 pub mod Agreement
 pub mod LayerState
-pub mod PpsFits
-pub mod SpsFits
 pub mod States
 pub mod StatesValue
 pub mod StateSteps

@@ -1,7 +1,7 @@
 //! Laws of what these objects stand for. Each function has an empty body, and its contract is the law.
 #![tactic(auto)]
 
-ghost use Rattle.std.specs.Prelude.{ℕ, ◌≡◌, ◌∷◌, ◌&&◌, not, true, false, Bool, List, Option, Some, None, nat_eq, option_map};
+ghost use Rattle.std.specs.Prelude.{◌≡◌, ◌∷◌, ◌&&◌, not, true, false, List, Some, None, nat_eq, option_map};
 ghost use Rattle.mv_history.specs.History.{Throughout};
 ghost use Rattle.mv_pictures.specs.AccessUnits.{Placed, all_placed, has_changed_vps, in_au, number};
 ghost use Rattle.mv_pictures.specs.Items.{Item, is_known, is_picture as is_unit_picture};
@@ -10,11 +10,6 @@ ghost use Rattle.mv_pictures.specs.History.{judged};
 ghost use Rattle.mv_pictures.specs.Look.{Look};
 ghost use Rattle.mv_pictures.specs.PictureRules.{vps_mid_cvs};
 ghost use Rattle.mv_pictures.specs.Judged.{Judged, is_base, is_end, is_layer_end, is_picture};
-ghost use Rattle.mv_au.specs.PpsFits.{PpsFits};
-ghost use Rattle.mv_pps.specs.Pps.{PpsValue, pps};
-ghost use Rattle.mv_au.specs.SpsFits.{SpsFits};
-ghost use Rattle.mv_sps.specs.Sps.{SpsValue, sps_payload};
-ghost use Rattle.mv_syntax.specs.Payload.{ValidPayload};
 ghost use Rattle.mv_au.specs.States.{Stands as StatesStand, is_started, state_of};
 ghost use Rattle.mv_au.specs.StatesValue.{StatesValue};
 ghost use Rattle.mv_au.specs.Tracker.{Stands, broken, latest_base};
@@ -42,14 +37,4 @@ pub fn other_units_change_no_state()
 /// answer anything but a start (this project's profile).
 pub fn a_changed_set_wants_a_start()
     ensures { (past : List Placed) (l : Look) (p : Fact) → is_base p ≡ true → vps_mid_cvs past l p ≡ (not (is_started (state_of l p)) && has_changed_vps past p.placed) }
-{}
-
-/// The fields of a valid picture parameter set that slice segment headers take are within their limits (7.3.2.3.1).
-pub fn a_valid_picture_parameter_set_fits()
-    ensures { (v : PpsValue) (tail : Option (List Bool)) → ValidPayload pps (v, tail) → PpsFits v }
-{}
-
-/// The fields of a valid sequence parameter set that slice segment headers take are within their limits (7.3.2.2.1).
-pub fn a_valid_sequence_parameter_set_fits()
-    ensures { (layer vps_sub_layers : ℕ) (v : SpsValue) (tail : Option (List Bool)) → ValidPayload (sps_payload layer vps_sub_layers) (v, tail) → SpsFits v }
 {}

@@ -30,7 +30,7 @@ use Rattle.mv_reflists.proofs.Headers.{few_l0, few_l1, all_l0, all_l1}
 
 -- ---- It is valid
 
-full_valid : (ctx : SliceContextValue) (nal_unit_type : ℕ) (head : SliceHead) (v : SliceFull) → Valid (slice_header ctx nal_unit_type) head → head.full ≡ Some v
+pub full_valid : (ctx : SliceContextValue) (nal_unit_type : ℕ) (head : SliceHead) (v : SliceFull) → Valid (slice_header ctx nal_unit_type) head → head.full ≡ Some v
     → Valid (full ctx nal_unit_type) v
 unfolding slice_header slice_fields
 full_valid ctx nal_unit_type head v h e = coded _ head.full h.0.1.1.0 e

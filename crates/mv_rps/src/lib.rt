@@ -12,7 +12,7 @@ mod resolving;
 
 pub use counts::{PocAsk, PocState};
 pub use fault::RefFault;
-pub use ref_set::RefSet;
+pub use ref_set::{RefSet, num_entries};
 pub use resolved::Resolved;
 
 #[cfg(test)]

@@ -77,6 +77,23 @@ fn entries_if(
     }
 }
 
+/// How many entries the reference picture set of a picture has, of its first segment's header and unit type (8.3.2).
+///
+/// `AllocError` where memory runs out.
+pub fn num_entries(
+    alloc: Global,
+    head: &SliceHead,
+    ctx: &SliceContext,
+    kind: u8,
+) -> Result<u8, AllocError>
+    requires fits { Fits ctx.now }
+    requires valid { Valid (slice_header ctx.now kind) head.now }
+    ensures { IfOk result (λ n. n ≡ length (entries_of ctx.now head.now)) }
+{
+    let entries = entries_if(alloc, head, ctx, kind)?;
+    Ok(entries.len() as u8)
+}
+
 fn is_irap(kind: u8) -> bool
     ensures { result ≡ is_irap kind }
 {

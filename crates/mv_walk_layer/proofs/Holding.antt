@@ -1,13 +1,12 @@
 -- What is held behind a decoded picture is what its entries keep of the buffer, and itself.
-use Rattle.std.proofs.Common.{◌≡◌, ℕ, zero, suc, ◌+◌, ◌-◌, ◌<◌, ◌≤◌, ◌⊎◌, inl, inr, ℤ, pos, Bool, true, false, cond, ◌||◌, List, [], ◌∷◌, ◌++◌, filter, length, get_or, map, reverse, Option, Some, None, refl, sym, ap, ap₂, ◌∙◌, subst, arith}
+use Rattle.std.proofs.Common.{◌≡◌, ℕ, zero, suc, ◌+◌, ◌-◌, ◌<◌, ◌≤◌, ◌⊎◌, inl, inr, ℤ, Bool, true, false, cond, ◌||◌, List, [], ◌∷◌, ◌++◌, filter, length, get_or, map, reverse, Option, Some, None, refl, sym, ap, ◌∙◌, subst, arith}
 use Rattle.std.specs.Prelude.{is_some, option_and_then, option_map, slice_get, if◌then◌else◌}
 use Rattle.std.specs.List.{All, cons_option, enumerate_from, filter_map}
 use Rattle.std.proofs.lemmas.Bool.{cases_lt}
-use Rattle.std.proofs.lemmas.List.{append-nil, get_or_append_left, get_or-append_right, length-append, length-map, map-append, reverse-append, reverse-reverse}
-use Rattle.std.proofs.lemmas.List.Elements.{All-append, All-cons, All-head, All-nil, All-tail, All-weaker, filter_map-append}
+use Rattle.std.proofs.lemmas.List.{append-nil, get_or_append_left, get_or-append_right, length-append, map-append, reverse-append}
+use Rattle.std.proofs.lemmas.List.Elements.{All-cons, All-head, All-nil, All-tail, All-weaker, filter_map-append}
 use Rattle.std.proofs.lemmas.List.FromFn.{get_or-enumerate_from, length-enumerate_from}
 use Rattle.std.proofs.lemmas.Option.{slice_get-get_or}
-use Rattle.std.proofs.lemmas.Simd.{map-map}
 use Rattle.mv_syntax.specs.Words.{◌otherwise◌}
 use Rattle.mv_history.specs.History.{Throughout}
 use Rattle.mv_layers.specs.OutputLayers.{is_among}
@@ -20,7 +19,7 @@ use Rattle.mv_pictures.specs.Judged.{Judged, au}
 use Rattle.mv_pictures.specs.PictureRules.{is_in_range}
 use Rattle.mv_commuting.specs.HeldOneMore.{marked_by, names_held, unmarked}
 use Rattle.mv_rps.specs.Standing.{AreApart, AreCounted, kept_by_name, told, told_of}
-use Rattle.mv_rps.proofs.FoundLaws.{All_reverse, enumerate_seconds, filter_map_agree, filter_map_behind, reverse_map}
+use Rattle.mv_rps.proofs.FoundLaws.{All_reverse, enumerate_seconds, filter_map_agree}
 use Rattle.mv_rps.proofs.ResolveLaws.{filter_map_map}
 use Rattle.mv_walk_layer.specs.Standing.{IsSound}
 

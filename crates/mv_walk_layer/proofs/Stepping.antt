@@ -1,7 +1,7 @@
 -- What is kept of a layer stands for the history with one unit more.
 use Rattle.std.proofs.Common.{◌≡◌, ℕ, ℤ, pos, nat_eq, Bool, true, false, cond, not, ◌&&◌, ◌||◌, List, [], ◌∷◌, ◌++◌, filter, map, Option, Some, None, refl, sym, ap, ap₂, ◌∙◌, subst, arith}
 use Rattle.std.specs.Prelude.{is_some, option_map, Result, Ok, Err}
-use Rattle.std.specs.List.{All, enumerate_from, filter_map, find}
+use Rattle.std.specs.List.{enumerate_from, filter_map}
 use Rattle.std.proofs.lemmas.Bool.{and_parts, eq-eqb}
 use Rattle.std.proofs.lemmas.List.{append-nil, map-append}
 use Rattle.std.proofs.lemmas.List.Elements.{All-nil}
@@ -11,12 +11,11 @@ use Rattle.mv_rules.specs.declared.rule.Rule.{Rule}
 use Rattle.mv_rules.specs.declared.rule.Rule.TheVariants.{PocRange}
 use Rattle.mv_dpb.specs.declared.held.Keep.{Keep}
 use Rattle.mv_pictures.specs.Facts.{Fact}
-use Rattle.mv_pictures.specs.SliceFields.{max_lsb}
 use Rattle.mv_pictures.specs.Items.{is_first_segment}
 use Rattle.mv_pictures.specs.Judged.{Judged, au, begins, is_base, is_picture, is_slice, layer, of_layer}
 use Rattle.mv_pictures.specs.Look.{Look, asked, in_sequence, look, sequence}
 use Rattle.mv_pictures.specs.Starts.{is_anew, is_decoded, is_idr_or_bla, is_sequence_start, is_skipped, is_start}
-use Rattle.mv_pictures.specs.Counts.{anchor, count, lsb, may_anchor, nearest, start_count}
+use Rattle.mv_pictures.specs.Counts.{anchor, count, may_anchor}
 use Rattle.mv_pictures.specs.Held.{Held, held, held_behind, longs, names}
 use Rattle.mv_pictures.specs.History.{judged, judgement}
 use Rattle.mv_pictures.specs.PictureRules.{is_in_range}

@@ -1,5 +1,5 @@
 -- A decoded picture whose references are all there has as many as its header counts.
-use Rattle.std.proofs.Common.{◌≡◌, ◌⊎◌, inl, inr, ℕ, suc, ◌+◌, ◌<◌, ◌≤◌, nat_eq, Bool, true, false, cond, not, ◌&&◌, ◌||◌, List, [], ◌∷◌, ◌++◌, filter, length, map, take, Option, Some, None, refl, sym, ap, ap₂, ◌∙◌, subst, if◌then◌else◌, arith}
+use Rattle.std.proofs.Common.{◌≡◌, ◌⊎◌, inl, inr, ℕ, suc, ◌+◌, ◌<◌, ◌≤◌, nat_eq, Bool, true, false, cond, not, ◌&&◌, ◌||◌, List, [], ◌∷◌, filter, length, map, Option, Some, None, refl, sym, ap, ap₂, ◌∙◌, subst, arith}
 use Rattle.std.specs.Prelude.{int_lt, pos, is_none, nat_lt, option_and_then, option_map}
 use Rattle.std.specs.List.{cons_option, enumerate_from, filter_map, list_any}
 use Rattle.std.specs.Option.{IfSome}
@@ -7,7 +7,7 @@ use Rattle.std.proofs.lemmas.Bool.{cases_lt, eq-eqb, eqb-false, eqb-true, lt-ltb
 use Rattle.std.proofs.lemmas.List.{length-append, length-map, length-take-le}
 use Rattle.std.proofs.lemmas.List.Elements.{filter-append}
 use Rattle.mv_rules.specs.declared.rule.Rule.TheVariants.{SliceSyntax}
-use Rattle.mv_syntax.specs.Table.{Table, Valid, u, when}
+use Rattle.mv_syntax.specs.Table.{Valid, u, when}
 use Rattle.mv_syntax.specs.Words.{◌!◌∶◌, coded_set, is_set, or_zero, over, ◌otherwise◌}
 use Rattle.mv_syntax.specs.Loops.{items_after}
 use Rattle.mv_history.proofs.Kept.{filter-map}
@@ -19,7 +19,7 @@ use Rattle.mv_slice.specs.declared.slice.SliceFull.{SliceFull}
 use Rattle.mv_slice.specs.declared.slice.SliceHead.{SliceHead}
 use Rattle.mv_slice.specs.Context.{Fits, SliceContextValue}
 use Rattle.mv_slice.specs.Derived.{is_long_used, long_entries as coded_longs, num_long_used, num_short_used, num_used, short_deltas}
-use Rattle.mv_slice.specs.InterLayer.{SliceInterLayerValue, active_layer, active_layer_numbers, inter_layer as inter_layer_fields, is_bad_number}
+use Rattle.mv_slice.specs.InterLayer.{SliceInterLayerValue, active_layer_numbers, inter_layer as inter_layer_fields, is_bad_number}
 use Rattle.mv_slice.specs.Layers.{active_layers as active_numbers, lacks_layers, num_active_ref_layer_pics}
 use Rattle.mv_slice.specs.LongTerms.{LongTermsValue}
 use Rattle.mv_slice.specs.Picture.{picture}
@@ -27,7 +27,7 @@ use Rattle.mv_slice.specs.Slice.{header_layers, header_total, num_pic_total_curr
 use Rattle.mv_slice.proofs.Totals.{active_few, eligible_few, full_parts}
 use Rattle.mv_pictures.specs.Facts.{Fact}
 use Rattle.mv_pictures.specs.SliceFields.{Aim, Entry, active_layers, at_cycle, at_delta, at_lsb, coded_entries, entries, full_of, head_of, long_entries, long_entry, num_pic_total_curr, short_entry}
-use Rattle.mv_pictures.specs.Terms.{Tag, Term, after, before, long, same_tag}
+use Rattle.mv_pictures.specs.Terms.{Tag, after, before, long, same_tag}
 use Rattle.mv_pictures.specs.Judged.{Judged, kind}
 use Rattle.mv_pictures.specs.Look.{Look, in_sequence, look}
 use Rattle.mv_pictures.specs.Starts.{is_decoded}

@@ -1,7 +1,7 @@
 -- What is asked of what is kept of a layer is what the definitions of pictures tell.
-use Rattle.std.proofs.Common.{◌≡◌, ◌⊎◌, inl, inr, ℕ, ◌<◌, ◌≤◌, ℤ, nat_eq, Bool, true, false, cond, not, ◌&&◌, ◌||◌, List, [], ◌∷◌, filter, get_or, Option, Some, None, refl, sym, ap, ap₂, ◌∙◌, subst, arith}
+use Rattle.std.proofs.Common.{◌≡◌, ◌⊎◌, inl, inr, ℕ, ◌<◌, ◌≤◌, ℤ, nat_eq, Bool, true, false, cond, not, ◌&&◌, List, [], ◌∷◌, filter, get_or, Option, Some, None, refl, sym, ap, ap₂, ◌∙◌, subst, arith}
 use Rattle.std.specs.Prelude.{bytes_eq, option_and_then, option_map}
-use Rattle.std.specs.List.{All, enumerate_from, filter_map, find}
+use Rattle.std.specs.List.{All, find}
 use Rattle.std.proofs.lemmas.Bool.{cases_lt, eq-eqb, ne_eqb}
 use Rattle.std.proofs.lemmas.List.{append-nil}
 use Rattle.std.proofs.lemmas.List.Elements.{All-cons, All-head, All-nil, All-tail}
@@ -9,7 +9,7 @@ use Rattle.mv_syntax.specs.Words.{◌otherwise◌}
 use Rattle.mv_history.specs.History.{Throughout, from}
 use Rattle.mv_pictures.specs.Facts.{Fact}
 use Rattle.mv_pictures.specs.Judged.{Judged, au, begins, in_au, is_base, layer, of_layer}
-use Rattle.mv_pictures.specs.Look.{Look, in_sequence, look, sequence}
+use Rattle.mv_pictures.specs.Look.{in_sequence, look, sequence}
 use Rattle.mv_pictures.specs.Starts.{is_decoded, is_start}
 use Rattle.mv_pictures.specs.Counts.{count}
 use Rattle.mv_pictures.specs.Held.{held}

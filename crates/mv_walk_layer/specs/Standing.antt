@@ -1,5 +1,5 @@
 -- What a layer's pictures, as they are kept, stand for (8.3.1, 8.3.2). Histories have the latest first.
-use Rattle.std.specs.Prelude.{◌≡◌, ◌<◌, ◌≤◌, ℕ, ℤ, true, false, ◌||◌, ◌&&◌, Bool, List, [], ◌∷◌, ◌++◌, All, length, Option, None, Some, is_some, option_and_then, option_map, Result, Ok, Err, if◌then◌else◌}
+use Rattle.std.specs.Prelude.{◌≡◌, ◌<◌, ◌≤◌, ℕ, ℤ, true, false, ◌||◌, List, [], ◌∷◌, ◌++◌, All, length, Option, None, Some, is_some, option_and_then, option_map, Result, Ok, Err, if◌then◌else◌}
 use Rattle.std.specs.List.{find}
 use Rattle.mv_syntax.specs.Words.{◌otherwise◌}
 use Rattle.mv_common.specs.declared.format.Format.{Format}
@@ -9,7 +9,6 @@ use Rattle.mv_dpb.specs.declared.held.Held.{Held as InBuffer}
 use Rattle.mv_pictures.specs.Facts.{Fact}
 use Rattle.mv_pictures.specs.Judged.{Judged, au, layer}
 use Rattle.mv_pictures.specs.Look.{Look, in_sequence, look}
-use Rattle.mv_pictures.specs.Starts.{is_start}
 use Rattle.mv_pictures.specs.Counts.{anchor, base_count, count, may_anchor}
 use Rattle.mv_pictures.specs.Held.{Held}
 use Rattle.mv_pictures.specs.References.{payload_of}

@@ -1,4 +1,5 @@
 pub mod OrderLaws
+pub mod QueueLaws
 pub mod SpsLaws
 pub mod StepLaws
 pub mod UnitLaws

@@ -1,13 +1,13 @@
 -- What is kept of output layer sets stands for a history: behind a sequence's start, and behind a picture.
-use Rattle.std.proofs.Common.{◌≡◌, ℕ, zero, suc, ◌+◌, ◌-◌, ◌<◌, ◌≤◌, Bool, true, false, cond, not, ◌&&◌, ◌||◌, List, [], ◌∷◌, filter, length, map, get_or, replicate, Option, Some, None, refl, ap, sym, ◌∙◌, subst, arith}
-use Rattle.std.specs.Prelude.{ℤ, pos, All, nat_eq, nat_lt, int_lt, option_map, option_and_then, slice_get, Result, Ok, Err, is_ok, ⊤}
+use Rattle.std.proofs.Common.{◌≡◌, ℕ, zero, suc, ◌+◌, ◌-◌, ◌<◌, ◌≤◌, Bool, true, false, cond, not, ◌&&◌, ◌||◌, List, [], ◌∷◌, filter, length, map, replicate, Option, Some, None, refl, ap, sym, ◌∙◌, subst, arith}
+use Rattle.std.specs.Prelude.{ℤ, pos, All, nat_eq, nat_lt, int_lt, option_map, option_and_then, slice_get, is_ok}
 use Rattle.std.specs.List.{find, last_or, range_with_len}
-use Rattle.std.proofs.lemmas.Bool.{and_from, and_left, and_parts, and_right, cond-true, cond-false, eqb-true, ltb-false, lt-ltb}
-use Rattle.std.proofs.lemmas.List.{get_or_past, length-map, length-replicate}
-use Rattle.std.proofs.lemmas.List.Elements.{All-nil, All-cons, All-head, All-tail, All-weaker}
+use Rattle.std.proofs.lemmas.Bool.{and_left, and_parts, and_right, cond-true, ltb-false}
+use Rattle.std.proofs.lemmas.List.{length-map, length-replicate}
+use Rattle.std.proofs.lemmas.List.Elements.{All-nil, All-cons, All-head, All-tail}
 use Rattle.mv_syntax.specs.Words.{◌otherwise◌}
-use Rattle.mv_history.specs.History.{Throughout, from}
-use Rattle.mv_history.specs.Order.{by, is_above, waits}
+use Rattle.mv_history.specs.History.{from}
+use Rattle.mv_history.specs.Order.{waits}
 use Rattle.mv_history.proofs.Instances.{tops-above}
 use Rattle.mv_common.specs.declared.sub_layer_ordering.SubLayer.{SubLayer}
 use Rattle.mv_common.specs.SubLayerOrdering.{SubLayerOrderingValue}
@@ -19,17 +19,17 @@ use Rattle.mv_layers.specs.OutputLayers.{is_among}
 use Rattle.mv_sps.specs.Sps.{SpsValue}
 use Rattle.mv_vps.specs.Vps.{WholeVps}
 use Rattle.mv_pictures.specs.Carried.{Carried, value_of}
-use Rattle.mv_pictures.specs.Layers.{InForce, set_at, sets_at, whole}
+use Rattle.mv_pictures.specs.Layers.{InForce, set_at, sets_at}
 use Rattle.mv_pictures.specs.Facts.{Fact}
 use Rattle.mv_pictures.specs.History.{judged, judgement}
 use Rattle.mv_pictures.specs.Items as items
-use Rattle.mv_pictures.specs.Judged.{Judged, au, begins, is_base, is_picture, is_slice, layer, of_layer, vps_at}
+use Rattle.mv_pictures.specs.Judged.{Judged, au, begins, is_base, is_picture, is_slice, layer, vps_at}
 use Rattle.mv_pictures.specs.Look.{Look, asked, look, sequence}
 use Rattle.mv_pictures.specs.SliceFields.{is_put_out}
 use Rattle.mv_pictures.specs.Starts.{is_anew, is_decoded, is_idr_or_bla, is_sequence_start, is_skipped, sequence_sps, sequence_vps}
 use Rattle.mv_pictures.specs.Output.{count_of, distinct, is_ahead, is_late, is_output, outputs, reorder, sequence_before, sps_reorder, units_ahead}
 use Rattle.mv_walk_order.specs.OrderValues.{OrdersValue, SetValue}
-use Rattle.mv_walk_order.specs.OrderSteps.{begun_upto, begun_with, counted_upto, counted_with, is_late_in, last_reorder, late_set, no_ols, no_set, puts_out, refusal, reorder_in, set_of, set_value}
+use Rattle.mv_walk_order.specs.OrderSteps.{begun_upto, begun_with, counted_upto, counted_with, is_late_in, last_reorder, late_set, puts_out, refusal, reorder_in, set_of, set_value}
 use Rattle.mv_walk_order.specs.Orders.{AreSteady, Holds, IsBegun, IsShown, IsSteady, Stands, StandsBefore, answer, each_once, output_units, root, sets_of, unit_of}
 use Rattle.mv_walk_order.proofs.StepLaws.{begun-below, length-begun, length-upto, upto-below}
 use Rattle.mv_walk_order.proofs.UnitLaws.{Fall, IsBehind, above, above-once, aus, once-more}

@@ -1,13 +1,13 @@
 -- Sets one behind the other: what a picture makes of each, and which is the least that refuses it.
-use Rattle.std.proofs.Common.{◌≡◌, ◌⊎◌, inl, inr, ℕ, zero, suc, ◌+◌, ◌<◌, ◌≤◌, Bool, true, false, cond, ◌&&◌, List, [], ◌∷◌, length, get_or, Option, Some, None, refl, ap, sym, ◌∙◌, subst, arith}
+use Rattle.std.proofs.Common.{◌≡◌, ◌⊎◌, inl, inr, ℕ, zero, suc, ◌+◌, ◌<◌, ◌≤◌, Bool, true, false, cond, ◌&&◌, List, length, Some, None, refl, ap, sym, ◌∙◌, subst, arith}
 use Rattle.std.specs.Prelude.{ℤ, slice_set, Result, Ok, Err, ⊤}
 use Rattle.mv_rules.specs.declared.rule.Rule.{Rule}
 use Rattle.std.specs.List.{find, range_with_len}
-use Rattle.std.proofs.lemmas.Bool.{cases_lt, cond-false, cond-true}
+use Rattle.std.proofs.lemmas.Bool.{cases_lt}
 use Rattle.std.proofs.lemmas.List.{get_or-set_other, get_or-set_same, length-set}
 use Rattle.mv_dpb.specs.OrderValue.{OrderValue}
 use Rattle.mv_dpb.specs.SetOrder.{begun, comes_late, order_of, with_unit}
-use Rattle.mv_walk_order.specs.OrderValues.{OrdersValue, SetValue}
+use Rattle.mv_walk_order.specs.OrderValues.{SetValue}
 use Rattle.mv_walk_order.specs.OrderSteps.{begun_upto, counted_in, counted_upto, is_late_in, late_set, puts_out, set_of}
 
 -- ---- The least number that passes a test

@@ -1,11 +1,10 @@
 -- Access units, each once: how many have a greater count than a picture, and what a picture more makes of them.
-use Rattle.std.proofs.Common.{◌≡◌, ℕ, suc, ◌<◌, ◌≤◌, Bool, true, false, cond, ◌&&◌, ◌||◌, List, [], ◌∷◌, filter, length, map, Some, refl, ap, sym, ◌∙◌, subst, arith}
+use Rattle.std.proofs.Common.{◌≡◌, ℕ, ◌<◌, ◌≤◌, Bool, true, false, cond, ◌||◌, List, [], ◌∷◌, filter, map, refl, ap, sym, ◌∙◌, arith}
 use Rattle.std.specs.Prelude.{ℤ, All, nat_eq, int_lt}
 use Rattle.std.specs.List.{list_any}
 use Rattle.std.specs.Ordering.{int_eq}
 use Rattle.std.proofs.lemmas.Bool.{and_from, and_left, cond-true, eq-eqb, eqb-true, eqb-false, or_from, or_parts, ne_eqb}
-use Rattle.std.proofs.lemmas.List.Elements.{All-head, All-tail, All-nil}
-use Rattle.mv_history.specs.Order.{waits}
+use Rattle.std.proofs.lemmas.List.Elements.{All-head, All-tail}
 use Rattle.mv_dpb.specs.declared.set_order.Counted.{Counted}
 use Rattle.mv_dpb.specs.SetOrder.{is_again, is_last, latest, order_after, with_unit}
 use Rattle.mv_dpb.proofs.OrderLaws.{after-more}

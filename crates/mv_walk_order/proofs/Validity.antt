@@ -1,6 +1,6 @@
 -- What is within limits in a valid video parameter set: at most 64 output layer sets, each of at most 64 layers, and reorder
 -- numbers of at most 15.
-use Rattle.std.proofs.Common.{◌≡◌, ℕ, zero, suc, ◌+◌, ◌-◌, ◌<◌, ◌≤◌, Bool, true, false, cond, not, List, [], ◌∷◌, length, get_or, map, drop, Option, Some, None, refl, sym, ap, ◌∙◌, subst, arith, nat_eq, nat_lt}
+use Rattle.std.proofs.Common.{◌≡◌, ℕ, zero, suc, ◌+◌, ◌-◌, ◌≤◌, Bool, true, false, cond, not, List, [], ◌∷◌, length, get_or, map, Option, Some, None, refl, sym, ap, ◌∙◌, subst, arith, nat_eq, nat_lt}
 use Rattle.std.specs.List.{enumerate_from, filter, range_with_len}
 use Rattle.std.proofs.lemmas.List.{length-drop, length-map}
 use Rattle.std.proofs.lemmas.List.Filters.{length-filter_both}
@@ -8,16 +8,14 @@ use Rattle.std.proofs.lemmas.List.FromFn.{length-enumerate_from, length-range_wi
 use Rattle.mv_syntax.specs.Table.{Valid, ue, when}
 use Rattle.mv_syntax.specs.Words.{◌!◌∶◌, ◌otherwise◌, is_set, or_zero, over}
 use Rattle.mv_syntax.proofs.LoopLaws.{items-length}
-use Rattle.mv_syntax.specs.Loops.{each}
 use Rattle.mv_rules.specs.declared.rule.Rule.TheVariants.{VpsLimit}
 use Rattle.mv_layers.specs.LayerInfos.{LayerInfoValue}
 use Rattle.mv_layers.specs.OutputLayers.{OlsLayers, highest, ols_layers, ols_outputs}
-use Rattle.mv_layers.specs.Derived.{OlsValue}
 use Rattle.mv_vpssets.specs.DpbSizes.{DpbSetValue}
 use Rattle.mv_vpssets.specs.OutputSets.{OutputLayerSetValue, VpsOutputSetsValue, output_layer_sets, output_sets, past_output_sets}
 use Rattle.mv_vpssets.specs.Sets.{all_sets, coded_set, coded_sets}
 use Rattle.mv_vpssets.proofs.Bounds.{layers_few}
-use Rattle.mv_vpsext.specs.Args.{AreVpsArgs, VpsArgsValue, layer_set, layer_sets}
+use Rattle.mv_vpsext.specs.Args.{AreVpsArgs, VpsArgsValue, layer_sets}
 use Rattle.mv_vpsext.specs.Derived.{all_ols, derived, no_dpb, numbered_ols, reorder, reorder_pics}
 use Rattle.mv_vpsext.specs.VpsExt.{VpsExtValue, ext_layers, vps_extension}
 use Rattle.mv_vpsext.proofs.Bounds.{flags_within}

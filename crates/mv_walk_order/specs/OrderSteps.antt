@@ -1,5 +1,5 @@
 -- How what is kept of output layer sets goes on by a sequence's start and by a picture.
-use Rattle.std.specs.Prelude.{ℕ, ◌≤◌, zero, suc, ℤ, Bool, ◌&&◌, List, [], length, get_or, map, slice_set, Option, Some, None, option_map, Result, Ok, Err, ⊤, if◌then◌else◌}
+use Rattle.std.specs.Prelude.{ℕ, ◌≤◌, zero, suc, ℤ, Bool, ◌&&◌, List, [], length, get_or, slice_set, Option, Some, None, option_map, Result, Ok, Err, ⊤, if◌then◌else◌}
 use Rattle.std.specs.List.{find, last_or, range_with_len}
 use Rattle.mv_syntax.specs.Words.{◌otherwise◌}
 use Rattle.mv_rules.specs.declared.rule.Rule.{Rule}

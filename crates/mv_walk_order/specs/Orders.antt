@@ -1,5 +1,5 @@
 -- What is kept of output layer sets stands for a history (C.5.2). Histories have the latest first.
-use Rattle.std.specs.Prelude.{◌≡◌, ℕ, ◌<◌, ◌≤◌, ℤ, Bool, true, List, [], ◌∷◌, All, length, map, Option, Some, None, option_and_then, Result, ⊤, nat_eq, if◌then◌else◌}
+use Rattle.std.specs.Prelude.{◌≡◌, ℕ, ◌<◌, ◌≤◌, ℤ, Bool, true, List, [], ◌∷◌, All, length, map, Option, Some, option_and_then, Result, ⊤, nat_eq, if◌then◌else◌}
 use Rattle.std.specs.List.{filter, find, list_any, range_with_len}
 use Rattle.mv_history.specs.History.{Throughout}
 use Rattle.mv_rules.specs.declared.rule.Rule.{Rule}

@@ -1,7 +1,6 @@
-use Rattle.std.proofs.Common.{◌≡◌, ◌∙◌, ◌<◌, ◌+◌, ℕ, ℤ, true, false, cond, length, Some, None, ap, sym, subst, arith, to_z, of_z, w32, rules}
-use Rattle.std.specs.Prelude.{Ok, Err, is_ok}
+use Rattle.std.proofs.Common.{◌≡◌, ◌∙◌, ℤ, cond, length, Some, ap, sym, arith, to_z, of_z, w32}
+use Rattle.std.specs.Prelude.{Err, is_ok}
 use Rattle.std.proofs.lemmas.Int.{to_z-of_z}
-use Rattle.mv_rules.specs.declared.rule.Rule.{Rule}
 use Rattle.mv_syntax.specs.Words.{◌otherwise◌}
 use Rattle.mv_walk_order.specs.OrderSteps.{counted_in, counted_upto, is_late_in, late_set, refusal}
 use Rattle.mv_walk_order.proofs.StepLaws.{err-is, none, refused, taken}

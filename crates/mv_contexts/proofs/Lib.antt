@@ -1,0 +1,11 @@
+pub mod BlockLaws
+pub mod EligibleLaws
+pub mod Fitting
+pub mod FormatLaws
+pub mod HeaderRules
+pub mod Peeking
+pub mod PpsLaws
+pub mod Reading
+pub mod RuleNumbers
+pub mod SpsLaws
+pub mod VpsLaws

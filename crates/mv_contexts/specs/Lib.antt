@@ -1,0 +1,5 @@
+pub mod PpsFits
+pub mod Sets
+pub mod SpsFits
+pub mod Units
+pub mod VpsFits

@@ -1,0 +1,10 @@
+pub mod Lower
+pub mod Directs
+pub mod Headers
+pub mod Bounds
+pub mod Counting
+pub mod Across
+pub mod Holding
+pub mod Listing
+pub mod Ordering
+pub mod Deciding

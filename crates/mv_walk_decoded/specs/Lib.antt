@@ -1,0 +1,5 @@
+pub mod Asked
+pub mod Actives
+pub mod Making
+pub mod Made
+pub mod Decided

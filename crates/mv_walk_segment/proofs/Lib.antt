@@ -1,0 +1,9 @@
+pub mod AddLaws
+pub mod AddedLaws
+pub mod AfterLaws
+pub mod ListLaws
+pub mod NamedLaws
+pub mod OpenLaws
+pub mod ReadLaws
+pub mod SameLaws
+pub mod TakenLaws

@@ -1,0 +1,12 @@
+pub mod Trying
+pub mod PpsTries
+pub mod SpsTries
+pub mod VpsTries
+pub mod CutLaws
+pub mod CaseLaws
+pub mod RoleLaws
+pub mod ReadingLaws
+pub mod DecideLaws
+pub mod VpsLaws
+pub mod SetLaws
+pub mod LayerLaws
