@@ -1,0 +1,5 @@
+//! The pictures that are kept, made and shown of a stream are the values of their terms: laws of definitions and no code, for a
+//! program that goes from unit to unit.
+#![tactic(auto)]
+
+pub mod laws;
