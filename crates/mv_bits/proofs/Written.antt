@@ -1,7 +1,7 @@
 -- What a writer's steps do to the bits written.
 use Rattle.std.proofs.Common.{◌≡◌, ℕ, suc, ◌+◌, ◌-◌, ◌*◌, ◌/◌, ◌%◌, ◌^◌, ◌<◌, ◌≤◌, Bool, true, false, replicate, List, [], ◌∷◌, ◌++◌, length, bit_and, bit_or, sym, ap, ap₂, ◌∙◌, arith, append_assoc, append-nil, length-append, take, get_or, refl, mul_comm, zero, add-one, pow-suc, pow_mono}
 use Rattle.std.proofs.lemmas.List.{take-append-le, take_more, take_all}
-use Rattle.std.proofs.lemmas.Nat.{shr_split, mod_below, pow_pos, pow-add, shl_whole, or_shifted, one_shl, and_mask, mul-add-lt}
+use Rattle.std.proofs.lemmas.Nat.{shr_below, shr_split, mod_below, pow_pos, pow-add, shl_whole, or_shifted, one_shl, and_mask, mul-add-lt}
 use Rattle.mv_syntax.specs.Bits.{u_bits, ue_bits, align_bits, trailing_bits, byte_bits}
 use Rattle.mv_syntax.proofs.BitLaws.{u_bits-append, u_bits-ones, u_bits-zero, u_bits-one, ue_bits-number, length-u_bits, length-byte_bits}
 use Rattle.mv_bits.proofs.Codes.{exponent_lt}
@@ -34,42 +34,49 @@ written_bits-more bytes count word n value h =
     ap (λ b. byte_bits bytes ++ b) (u_bits-append count n word value h)
     ∙ sym (append_assoc (byte_bits bytes) (u_bits count word) (u_bits n value))
 
--- the bits of a value behind those of the word, as the program's word
-pub started_word : (count last n value : ℕ) → count < 8 → n ≤ 64 → last < 2 ^ count → value < 2 ^ n → bit_or (last * 2 ^ n % 2 ^ 128) value ≡ last * 2 ^ n + value
-started_word count last n value narrow most h k =
-    ap (λ w. bit_or w value) (shl_whole last count n 128 h (omega arith)) ∙ or_shifted last n value k
+-- the bits of a value behind those of the word, as the program's word of `width` bits
+pub started_word : (width count last n value : ℕ) → count + n ≤ width → last < 2 ^ count → value < 2 ^ n → bit_or (last * 2 ^ n % 2 ^ width) value ≡ last * 2 ^ n + value
+started_word width count last n value room h k =
+    ap (λ w. bit_or w value) (shl_whole last count n width h room) ∙ or_shifted last n value k
 
-started_word-lt : (count last n value : ℕ) → last < 2 ^ count → value < 2 ^ n → last * 2 ^ n + value < 2 ^ (count + n)
-started_word-lt count last n value h k =
+started_sum-lt : (count last n value : ℕ) → last < 2 ^ count → value < 2 ^ n → last * 2 ^ n + value < 2 ^ (count + n)
+started_sum-lt count last n value h k =
     omega (arith, mul-add-lt last (2 ^ n) value (2 ^ count) h k, pow-add 2 count n, mul_comm (2 ^ n) (2 ^ count))
+
+pub started_word-lt : (width count last n value : ℕ) → count + n ≤ width → last < 2 ^ count → value < 2 ^ n → bit_or (last * 2 ^ n % 2 ^ width) value < 2 ^ (count + n)
+started_word-lt width count last n value room h k =
+    rw (started_word width count last n value room h k) (started_sum-lt count last n value h k)
+
+pub written_bits-started : (width : ℕ) (bytes : List ℕ) (count last n value : ℕ) → count + n ≤ width → last < 2 ^ count → value < 2 ^ n → written_bits bytes (count + n) (bit_or (last * 2 ^ n % 2 ^ width) value) ≡ written_bits bytes count last ++ u_bits n value
+written_bits-started width bytes count last n value room h k =
+    ap (written_bits bytes (count + n)) (started_word width count last n value room h k)
+    ∙ written_bits-more bytes count last n value k
 
 -- What the loop keeps: the bits behind `before`, of which the first are those at the start.
 pub record Pending (left word : ℕ) (bytes started : List ℕ) (before : ℕ) (bits : List Bool) : Type 0 where
-  pub narrow : left < 72
+  pub narrow : left < 64
   pub in_hand : word < 2 ^ left
   pub written : written_bits bytes left word ≡ bits
   pub long : before ≤ length bytes
   pub kept : take before bytes ≡ started
 
-pub Pending-started : (count last n value before : ℕ) (bytes : List ℕ) → count < 8 → n ≤ 64 → last < 2 ^ count → value < 2 ^ n → before ≤ length bytes → Pending (count + n) (bit_or (last * 2 ^ n % 2 ^ 128) value) bytes (take before bytes) before (written_bits bytes count last ++ u_bits n value)
-Pending-started count last n value before bytes narrow most h k long =
-    let word = started_word count last n value narrow most h k in
-    record {
-      narrow = omega arith;
-      in_hand = rw word (started_word-lt count last n value h k);
-      written = ap (written_bits bytes (count + n)) word ∙ written_bits-more bytes count last n value k;
-      long = long;
-      kept = refl;
-    }
+pub Pending-started : (count last n value before : ℕ) (bytes : List ℕ) → count < 8 → n ≤ 56 → last < 2 ^ count → value < 2 ^ n → before ≤ length bytes → Pending (count + n) (bit_or (last * 2 ^ n % 2 ^ 64) value) bytes (take before bytes) before (written_bits bytes count last ++ u_bits n value)
+Pending-started count last n value before bytes narrow most h k long = record {
+  narrow = omega arith;
+  in_hand = started_word-lt 64 count last n value (omega arith) h k;
+  written = written_bits-started 64 bytes count last n value (omega arith) h k;
+  long = long;
+  kept = refl;
+}
 
-pub Pending-moved : (left word before : ℕ) (bytes started more : List ℕ) (bits : List Bool) → Pending left word bytes started before bits → 8 ≤ left → more ≡ bytes ++ word / 2 ^ (left - 8) ∷ [] → Pending (left - 8) (bit_and word (1 * 2 ^ (left - 8) % 2 ^ 128 - 1)) more started before bits
+pub Pending-moved : (left word before : ℕ) (bytes started more : List ℕ) (bits : List Bool) → Pending left word bytes started before bits → 8 ≤ left → more ≡ bytes ++ word / 2 ^ (left - 8) ∷ [] → Pending (left - 8) (bit_and word (1 * 2 ^ (left - 8) % 2 ^ 64 - 1)) more started before bits
 Pending-moved left word before bytes started more bits h some pushed =
     let count = left - 8 in
     let parts : 8 + count ≡ left = omega arith in
-    let narrow : count < 128 = omega (arith, h.narrow) in
+    let narrow : count < 64 = omega (arith, h.narrow) in
     let below : word < 2 ^ (8 + count) = rw parts h.in_hand in
-    let mask : bit_and word (1 * 2 ^ count % 2 ^ 128 - 1) ≡ word % 2 ^ count
-    = ap (λ m. bit_and word (m - 1)) (one_shl count 128 narrow) ∙ and_mask word count
+    let mask : bit_and word (1 * 2 ^ count % 2 ^ 64 - 1) ≡ word % 2 ^ count
+    = ap (λ m. bit_and word (m - 1)) (one_shl count 64 narrow) ∙ and_mask word count
     in
     let long = h.long in
     record {
@@ -82,6 +89,29 @@ Pending-moved left word before bytes started more bits h some pushed =
       long = omega (arith, ap length pushed, length-append bytes (word / 2 ^ count ∷ []));
       kept = ap (take before) pushed ∙ take-append-le before bytes (word / 2 ^ count ∷ []) long ∙ h.kept;
     }
+
+-- the upper bits of a value first, and then the k bits below
+pub Extends-halves : (before count word n k value : ℕ) (started mid new : List ℕ) (high last : ℕ × ℕ) → k ≤ n → Extends before started mid (written_bits started count word ++ u_bits (n - k) (value / 2 ^ k)) high → Extends before mid new (written_bits mid high.1 high.0 ++ u_bits k (value % 2 ^ k)) last → Extends before started new (written_bits started count word ++ u_bits n value) last
+Extends-halves before count word n k value started mid new high last some h l =
+    let low : value % 2 ^ k < 2 ^ k = mod_below value (2 ^ k) (pow_pos k) in
+    let size : n - k + k ≡ n = omega arith in
+    let parts : u_bits (n - k) (value / 2 ^ k) ++ u_bits k (value % 2 ^ k) ≡ u_bits n value
+    = sym (u_bits-append (n - k) k (value / 2 ^ k) (value % 2 ^ k) low) ∙ ap₂ u_bits size (shr_split value k)
+    in
+    record {
+      written = l.written
+          ∙ ap (λ b. b ++ u_bits k (value % 2 ^ k)) h.written
+          ∙ append_assoc (written_bits started count word) (u_bits (n - k) (value / 2 ^ k)) (u_bits k (value % 2 ^ k))
+          ∙ ap (λ b. written_bits started count word ++ b) parts;
+      narrow = l.narrow;
+      in_hand = l.in_hand;
+      long = l.long;
+      kept = l.kept ∙ h.kept;
+    }
+
+pub upper-lt : (n k value : ℕ) → k ≤ n → value < 2 ^ n → value / 2 ^ k < 2 ^ (n - k)
+upper-lt n k value some h =
+    let size : n - k + k ≡ n = omega arith in shr_below value (n - k) k (rw size h)
 
 pub written_bits-none : (bytes : List ℕ) → bytes ≡ [] → written_bits bytes 0 0 ≡ []
 unfolding written_bits u_bits byte_bits

@@ -53,6 +53,11 @@ impl BitWriter {
         ensures ok { OnOk result (self.new ≡ self.old ++ u_bits n value) }
         ensures err { OnErr result (self.new ≡ self.old) }
     {
+        if self.count + n < 8 {
+            self.word = self.word << n | value as u8;
+            self.count += n;
+            return Ok(());
+        }
         let before = self.bytes.len();
         let last = put(&mut self.bytes, before, (self.word, self.count), n, value)?;
         self.word = last.0;
@@ -147,8 +152,29 @@ fn put(
     ensures ok { IfOk result (Extends before bytes.old.items bytes.new.items (written_bits bytes.old.items last.1 last.0 ++ u_bits n value)) }
     ensures err { OnErr result (bytes.new.items ≡ take before bytes.old.items) }
 {
+    if n <= 56 {
+        return put_short(bytes, before, last, n, value);
+    }
+    let high = put_short(bytes, before, last, n - 32, value >> 32)?;
+    put_short(bytes, before, high, 32, value % (1 << 32))
+}
+
+// The same where all the bits in hand fit in a word.
+fn put_short(
+    bytes: &mut Vec<u8>,
+    before: usize,
+    last: (u8, u8),
+    n: u8,
+    value: u64,
+) -> Result<(u8, u8), AllocError>
+    requires begun { (last.1 < 8) × (last.0 < 2 ^ last.1) }
+    requires in_range { (n ≤ 56) × (value < 2 ^ n) }
+    requires long { before ≤ vec_len bytes.old }
+    ensures ok { IfOk result (Extends before bytes.old.items bytes.new.items (written_bits bytes.old.items last.1 last.0 ++ u_bits n value)) }
+    ensures err { OnErr result (bytes.new.items ≡ take before bytes.old.items) }
+{
     let mut left = last.1 + n;
-    let mut word = u128::from(last.0) << n | u128::from(value);
+    let mut word = u64::from(last.0) << n | value;
     'bytes: while left >= 8 {
         left -= 8;
         if bytes.push((word >> left) as u8).is_err() {

@@ -1,22 +1,13 @@
-use Rattle.std.proofs.Common.{◌≡◌, ◌<◌, ◌≤◌, ◌+◌, ◌-◌, ◌^◌, sym, arith, rules, length}
-use Rattle.std.proofs.lemmas.Nat.{shr_below}
-use Rattle.mv_bits.proofs.Written.{Pending-started, Pending-moved}
+use Rattle.std.proofs.Common.{◌≤◌, arith}
+use Rattle.std.proofs.lemmas.Result.{IfOk-weaker}
+use Rattle.mv_bits.proofs.Written.{Extends-halves, upper-lt}
 use Rattle.mv_bits.proofs.writer.put.Goals as goal
 
-pub bytes-init : goal.bytes-init
-bytes-init c =
-    let last : c.args.last.0 ≡ c.from.result = sym c.from.ensures in
-    let value : c.args.value ≡ c.from-2.result = sym c.from-2.ensures in
-    let long : c.args.before ≤ length c.args.bytes.now.items = search rules in
-    rw (← last, ← value) (Pending-started c.args.last.1 c.args.last.0 c.args.n c.args.value c.args.before c.args.bytes.now.items c.requires.begun.0 c.requires.in_range.0 c.requires.begun.1 c.requires.in_range.1 long)
+pub put_short-requires-2-clause-in_range : goal.put_short-requires-2-clause-in_range
+put_short-requires-2-clause-in_range c =
+    (omega (arith, c.requires.in_range.0), upper-lt c.args.n 32 c.args.value (omega (arith, c.if-n-le56.false)) c.requires.in_range.1)
 
-pub overflow_cast-word-in-bytes : goal.overflow_cast-word-in-bytes
-overflow_cast-word-in-bytes c =
-    let parts : 8 + (c.bytes.left - 8) ≡ c.bytes.left = omega (arith, c.bytes-test.true) in
-    let below : c.bytes.word < 2 ^ (8 + (c.bytes.left - 8)) = rw parts c.bytes.invariant.in_hand in
-    omega (arith, shr_below c.bytes.word 8 (c.bytes.left - 8) below)
-
-pub bytes-preserved : goal.bytes-preserved
-bytes-preserved c =
-    let pushed = rw c.if-is_err.ensures.negation at c.push.ensures.items in
-    Pending-moved c.bytes.left c.bytes.word c.args.before c.bytes.bytes.items _ c.push.new.self.items _ c.bytes.invariant c.bytes-test.true pushed
+pub returns-clause-ok : goal.returns-clause-ok
+returns-clause-ok c =
+    let many : 32 ≤ c.args.n = omega (arith, c.if-n-le56.false) in
+    IfOk-weaker c.put_short-3.result _ _ (λ last l. Extends-halves c.args.before c.args.last.1 c.args.last.0 c.args.n 32 c.args.value c.args.bytes.now.items c.put_short-2.new.bytes.items c.put_short-3.new.bytes.items c.in_ok-high.high last many c.in_ok-high.ensures.ok l) c.put_short-3.ensures.ok

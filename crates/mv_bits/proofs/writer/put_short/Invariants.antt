@@ -2,7 +2,7 @@ use Rattle.std.proofs.Common.{◌++◌, take}
 use Rattle.mv_syntax.specs.Bits.{u_bits}
 use Rattle.mv_bits.specs.inner.Written.{written_bits}
 use Rattle.mv_bits.proofs.Written.{Pending}
-use Rattle.mv_bits.proofs.writer.put.Given as goal
+use Rattle.mv_bits.proofs.writer.put_short.Given as goal
 
 abbrev pub invariant-bytes : goal.invariant-bytes
 invariant-bytes l =
