@@ -2,7 +2,7 @@
 use Rattle.std.specs.Prelude.{ℕ, ◌≡◌, ◌<◌, ◌≤◌, ◌^◌, List, [], ◌∷◌, length, codes, slice_index}
 use Rattle.std.specs.Str.Parse.{IsNumeral, digits_value}
 use Rattle.mv_cli.specs.declared.command.Command.{Command}
-use Rattle.mv_cli.specs.declared.command.Command.TheVariants.{Extract, Check, Pack, Unpack}
+use Rattle.mv_cli.specs.declared.command.Command.TheVariants.{Extract, Check, Show, Pack, Unpack}
 
 -- a word writes a number: it is of 1 to 10 decimal digits, leading zeros among them, and the number is below 2^32
 pub record IsNumber (word : List ℕ) (n : ℕ) : Type 0 where
@@ -25,13 +25,15 @@ pub record IsExtract (words : List (List ℕ)) (n : ℕ) : Type 0 where
 abbrev pub MeansPlain : List (List ℕ) → Command → Type 0
 MeansPlain words (Extract n) = ⊥
 MeansPlain words Check = words ≡ codes "check" ∷ []
+MeansPlain words Show = words ≡ codes "show" ∷ []
 MeansPlain words Pack = words ≡ codes "pack" ∷ []
 MeansPlain words Unpack = words ≡ codes "unpack" ∷ []
 
--- the words of each command: `extract` and the number of a set, or `check`, or `pack`, or `unpack`, and no others
+-- the words of each command: `extract` and the number of a set, or `check`, or `show`, or `pack`, or `unpack`, and no others
 abbrev pub Means : List (List ℕ) → Command → Type 0
 Means words (Extract n) = IsExtract words n
 Means words Check = words ≡ codes "check" ∷ []
+Means words Show = words ≡ codes "show" ∷ []
 Means words Pack = words ≡ codes "pack" ∷ []
 Means words Unpack = words ≡ codes "unpack" ∷ []
 

@@ -3,11 +3,9 @@
 
 ghost use Rattle.std.specs.Prelude.{None};
 
-use crate::run::run_within;
 use crate::tests::{Outcome, PLAIN, Row, check, run_on};
-use mv_io::{MemSink, MemSource, Source, SourceFailed};
+use mv_io::{MemSource, Source, SourceFailed};
 use std::alloc::{AllocError, Global};
-use std::process::Abort;
 use std::test::Fail;
 
 pub const LONG_CODE: &[u8] = &[0, 0, 0, 1];
@@ -83,68 +81,48 @@ pub fn stream(alloc: Global, units: &[&[u8]], code: &[u8]) -> Result<Vec<u8>, Al
     Ok(bytes)
 }
 
-// Runs the words on an accepted stream in pieces.
-fn accepted_in(
-    rt: &impl Abort,
-    alloc: Global,
-    words: &[&str],
-    input: &[u8],
-    pieces: &[u32],
-    output: &[u8],
-) -> Result<(), Fail> {
-    let mut texts = Vec::new(alloc);
-    for word in words {
-        texts.push(String::from_str(alloc, word)?)?;
-    }
-    let mut source = MemSource::new(alloc, input, pieces, &[])?;
-    let mut written = MemSink::new(alloc, 1000, &[])?;
-    let mut faults = MemSink::new(alloc, 1000, &[])?;
-    let answered = run_within(alloc, &texts, &mut source, &mut written, &mut faults, 1000);
-    assert_eq!(rt; answered, 0);
-    assert_eq!(rt; written.bytes(), output);
-    assert_eq!(rt; faults.bytes().len(), 0);
-    Ok(())
-}
-
-// The words answer the same for the stream with two views under each code, however it is cut.
-fn accepted_however_cut(
-    rt: &impl Abort,
-    alloc: Global,
-    words: &[&str],
-    output: &[u8],
-) -> Result<(), Fail> {
-    let long = stream(alloc, &TWO_VIEW, LONG_CODE)?;
-    let short = stream(alloc, &TWO_VIEW, SHORT_CODE)?;
-    assert_eq!(rt; short.len(), 149);
-    accepted_in(rt, alloc, words, &long, &[], output)?;
-    accepted_in(rt, alloc, words, &long, &ONES, output)?;
-    accepted_in(rt, alloc, words, &short, &[], output)?;
-    accepted_in(rt, alloc, words, &short, &ONES, output)
-}
-
 #[test]
 fn extracts_however_cut(rt: HostRuntime) -> Result<(), Fail> {
     let alloc = rt.alloc();
     let base = stream(alloc, &BASE, LONG_CODE)?;
     assert_eq!(rt; base.len(), 115);
     let long = stream(alloc, &TWO_VIEW, LONG_CODE)?;
-    accepted_however_cut(&rt, alloc, &["extract", "1"], &long)?;
-    accepted_however_cut(&rt, alloc, &["extract", "0"], &base)?;
-    accepted_however_cut(
-        &rt,
-        alloc,
-        &["check"],
-        b"accepted: units 9 pictures 4 sequences 1 layers 2 sets 2\n",
-    )
-}
-
-// The first bytes of a stream, or all of them where it has fewer.
-fn front<'a>(bytes: &'a [u8], len: usize) -> &'a [u8] {
-    if len <= bytes.len() {
-        &bytes[..len]
-    } else {
-        bytes
+    let short = stream(alloc, &TWO_VIEW, SHORT_CODE)?;
+    assert_eq!(rt; short.len(), 149);
+    let whole = Row {
+        status: 0,
+        line: "",
+        ..PLAIN
+    };
+    let one = Row {
+        words: &["extract", "1"],
+        output: &long,
+        ..whole
+    };
+    let zero = Row {
+        output: &base,
+        ..whole
+    };
+    let checked = Row {
+        words: &["check"],
+        output: b"accepted: units 9 pictures 4 sequences 1 layers 2 sets 2\n",
+        ..whole
+    };
+    for row in &[one, zero, checked] {
+        for input in &[&long, &short] {
+            check(&rt, alloc, &Row { input, ..*row })?;
+            check(
+                &rt,
+                alloc,
+                &Row {
+                    input,
+                    pieces: &ONES,
+                    ..*row
+                },
+            )?;
+        }
     }
+    Ok(())
 }
 
 #[test]
@@ -154,7 +132,7 @@ fn refuses_at_the_byte_that_shows_it(rt: HostRuntime) -> Result<(), Fail> {
     let refused = Row {
         words: &["extract", "1"],
         input: &input,
-        output: front(&input, 120),
+        output: &input[..120],
         line: "refused: unit 5 at byte 124: rule 3 Emulation\n",
         ..PLAIN
     };
@@ -198,7 +176,7 @@ fn keeps_what_was_written_before_a_failed_write(rt: HostRuntime) -> Result<(), F
             alloc,
             &Row {
                 failing_writes: &[number as u64],
-                output: front(&input, *len),
+                output: &input[..*len],
                 ..failed
             },
         )?;

@@ -4,7 +4,9 @@
 use mv_bytestream::{ScanFault, Scanner, frame};
 use mv_io::{Buffered, Sink, Source, StdSink, StdSource, write_all};
 use mv_rebuild::{NoPictures, NoViewer};
+use mv_extract::ExtractError;
 use mv_rules::Refusal;
+use mv_show::show;
 use mv_walk::{Totals, WalkError, Walker};
 use std::alloc::Global;
 use std::env;
@@ -97,6 +99,21 @@ fn main(rt: HostRuntime) -> ExitCode {
     let Ok(words) = args.skip(1).collect::<Vec<String>>(rt.alloc()) else { return ExitCode::from(5); };
     let mut input = StdSource::new(&rt);
     let mut output = Buffered::new(StdSink::output(&rt));
+    if words.len() == 1 && words[0].as_str() == "show" {
+        let status = match show(rt.alloc(), &mut input, 1 << 40, &mut output) {
+            Ok(_) => 0,
+            Err(ExtractError::Refused(r)) => {
+                let mut faults = StdSink::error(&rt);
+                let Ok(text) = format!(in rt.alloc(); "refused: unit {} at byte {}: rule {} {}\n", r.unit, r.byte, r.rule.number(), r.rule) else { return ExitCode::from(5); };
+                let _ = write_all(&mut faults, text.as_bytes());
+                1
+            }
+            Err(ExtractError::Memory) => 5,
+            Err(_) => 8,
+        };
+        let _ = output.flush();
+        return ExitCode::from(status);
+    }
     let extract = words.len() > 1;
     let set = if extract { words[1].parse::<u32>().unwrap_or(0) } else { 0 };
     let result = walk(rt.alloc(), &mut input, set, extract, &mut output);

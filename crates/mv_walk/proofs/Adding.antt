@@ -81,7 +81,7 @@ later-stands {R} {W} {P} old new vps past p unit it added h slice later was now 
         pictures = record {
           all = ap (λ x. length x.items) layers_same ∙ k.all;
           layers_are = λ n lt. subst (layers.Stands (layer_at new.layers.items n) (judged past p ∷ past) n) (sym (makes n))
-              (subst (λ x. layers.Stands (layer_at x.items n) (judged past p ∷ past) n (in_making old.making n)) (sym layers_same) (k.layers_are n lt));
+            (subst (λ x. layers.Stands (layer_at x.items n) (judged past p ∷ past) n (in_making old.making n)) (sym layers_same) (k.layers_are n lt));
           order_is = subst (λ s. orders.Stands s (judged past p ∷ past)) (sym order) k.order_is;
           base_is = λ q. k.base_is q ∙ sym base;
           pictures_are = pictures ∙ k.pictures_are;

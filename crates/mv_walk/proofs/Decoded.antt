@@ -98,7 +98,7 @@ latest-told vps s past p f = sym (ap₂ (λ (a : ℕ) (t : Sets). told_as a t) f
     told_as : ℕ → Sets → layers.Told
     told_as a t = record { au = a; payload = payload_of t.sps; format = t.format }
 
-pub no-sequence : (past : List Judged) (p : Fact) → is_start (look past p) p ≡ false → is_sequence_start (look past p) p ≡ false
+no-sequence : (past : List Judged) (p : Fact) → is_start (look past p) p ≡ false → is_sequence_start (look past p) p ≡ false
 unfolding is_start is_sequence_start
 no-sequence past p none = go (nat_eq (layer p) 0) refl none
   where
@@ -199,10 +199,10 @@ decided-keeps {R} {W} {P} ready new counted_kept vps s start past p v m r f d lo
     let l : LayerValue P = layer_at ready.layers.items (layer p) in
     let counted_l : LayerValue P = with_count (asked_within (look past p) p) l in
     let at : layer_at counted_kept (layer p) ≡ counted_l =
-    ap (λ (xs : List (LayerValue P)). layer_at xs (layer p)) h.own_layer ∙ get_or-set_same ready.layers.items (layer p) counted_l no_pictures (subst (λ n. layer p < n) (sym r.all) lt) in
+        ap (λ (xs : List (LayerValue P)). layer_at xs (layer p)) h.own_layer ∙ get_or-set_same ready.layers.items (layer p) counted_l no_pictures (subst (λ n. layer p < n) (sym r.all) lt) in
     let sets : new.layers.items ≡ slice_set counted_kept (layer p) (with_decoded start v.resolved.keep.items (latest_by s) counted_l) =
-    after ∙ ap (λ k. slice_set counted_kept k (with_decoded start v.resolved.keep.items (latest_by s) (layer_at counted_kept k))) (sym same)
-    ∙ ap (λ (x : LayerValue P). slice_set counted_kept (layer p) (with_decoded start v.resolved.keep.items (latest_by s) x)) at in
+        after ∙ ap (λ k. slice_set counted_kept k (with_decoded start v.resolved.keep.items (latest_by s) (layer_at counted_kept k))) (sym same)
+        ∙ ap (λ (x : LayerValue P). slice_set counted_kept (layer p) (with_decoded start v.resolved.keep.items (latest_by s) x)) at in
     let making : made_in (layer p) m ≡ Some (v.count, au p) = ap (λ k. made_in k m) same ∙ made ∙ ap (λ a. Some (v.count, a)) (sym f.au_is) in
     let decoded : (judged past p).decoded ≡ true = decoded-is past p f.picture ∙ d.decoded in
     let few : length (filter (λ (q : Judged). q.decoded) past) ≤ length past = few-of (λ (q : Judged). q.decoded) past in
@@ -212,8 +212,8 @@ decided-keeps {R} {W} {P} ready new counted_kept vps s start past p v m r f d lo
     record {
       all = ap length sets ∙ length-set counted_kept (layer p) (with_decoded start v.resolved.keep.items (latest_by s) counted_l) ∙ ap length h.own_layer ∙ length-set ready.layers.items (layer p) counted_l ∙ r.all;
       layers_are = layers-stand ready.layers.items counted_kept new.layers.items (judged past p ∷ past) (layer p) (with_decoded start v.resolved.keep.items (latest_by s) counted_l) counted_l (v.count, au p) m r.all lt h.own_layer sets making
-          (own-stands l past p v.count v.resolved.keep.items (latest_by s) start d.decoded d.start_is (λ goes. r.layers_are goes (layer p) lt) u h.counts h.keep (latest-told vps s past p f) sound)
-          (λ n less other. other-stands ready past p n r f.picture less other);
+        (own-stands l past p v.count v.resolved.keep.items (latest_by s) start d.decoded d.start_is (λ goes. r.layers_are goes (layer p) lt) u h.counts h.keep (latest-told vps s past p f) sound)
+        (λ n less other. other-stands ready past p n r f.picture less other);
       order_is = h.order_stands;
       base_is = λ q. base-more past p q (Some v.count) ready.base_count f.picture (within-is past p v.count u h.counts) (r.base_is q) ∙ ap (λ k. cond (nat_eq k 0) (Some v.count) ready.base_count) same ∙ sym base;
       pictures_are = more ∙ ap (λ n. n + 1) counted ∙ sym (one-more (λ (q : Judged). q.decoded) past (judged past p) decoded);

@@ -34,18 +34,15 @@ no-base p = refl
 pub decoder-empty : {R W P : Type 0} (d : Decoder R W P) → states.Stands d.states [] → d.layers.items ≡ replicate 64 no_pictures → orders.Stands d.order [] → d.base_count ≡ None → d.picture ≡ None → d.making ≡ None →
     d.pictures ≡ 0 → d.sequences ≡ 0 → IsClosed d []
 decoder-empty {R} {W} {P} d stands kept order base picture making pictures sequences = record {
-  keeps = record {
-    states_are = stands;
-    pictures = record {
-      all = ap length kept ∙ length-replicate 64 (no_pictures {P = P});
-      layers_are = λ n lt. subst (λ (l : LayerValue P). layers.Stands l [] n None) (sym (ap (λ (xs : List (LayerValue P)). layer_at xs n) kept ∙ get_or-replicate 64 n (no_pictures {P = P}) (no_pictures {P = P}) lt)) (none-yet n);
-      order_is = order;
-      base_is = λ p. no-base p ∙ sym base;
-      pictures_are = pictures;
-      sequences_are = sequences;
-      in_layer = tt;
-    };
-  };
+  keeps = record { states_are = stands; pictures = record {
+    all = ap length kept ∙ length-replicate 64 (no_pictures {P = P});
+    layers_are = λ n lt. subst (λ (l : LayerValue P). layers.Stands l [] n None) (sym (ap (λ (xs : List (LayerValue P)). layer_at xs n) kept ∙ get_or-replicate 64 n (no_pictures {P = P}) (no_pictures {P = P}) lt)) (none-yet n);
+    order_is = order;
+    base_is = λ p. no-base p ∙ sym base;
+    pictures_are = pictures;
+    sequences_are = sequences;
+    in_layer = tt;
+  } };
   none_open = picture;
   none_made = making;
 }
@@ -58,7 +55,7 @@ no-facts : facts_of [] ≡ []
 unfolding facts_of facts all_placed items run
 no-facts = refl
 
-pub no-items : items (reverse []) ≡ []
+no-items : items (reverse []) ≡ []
 unfolding items run
 no-items = refl
 

@@ -95,13 +95,11 @@ anchored us u = All-head layers.IsDecodedAnchor (judged (history_of us) (fact_be
 steady-behind : (us : List (List ℕ)) (u : List ℕ) → breaks_none (history_of us) ≡ true → broken (placed_units us) (placed_behind us u) ≡ None → is_picture (item_behind us u) ≡ true →
     poc_mismatch (look (history_of us) (fact_behind us u)) (fact_behind us u) ≡ false → orders.AreSteady (judged (history_of us) (fact_behind us u) ∷ history_of us)
 unfolding judged judgement
-steady-behind us u none unit picture rule = (
-  record {
-    rises = subst (λ n. All (λ (e : Judged). au e.fact ≤ n) (history_of us)) (sym (au-of us u)) (none-later us u);
-    one_count = λ decoded. next-agrees us u none unit rule picture decoded;
-  },
-  throughout-weaker _ orders.IsSteady (λ past d h. record { rises = h.0; one_count = h.1 }) (history_of us) (steady us none),
-)
+steady-behind us u none unit picture rule =
+    (record {
+      rises = subst (λ n. All (λ (e : Judged). au e.fact ≤ n) (history_of us)) (sym (au-of us u)) (none-later us u);
+      one_count = λ decoded. next-agrees us u none unit rule picture decoded;
+    }, throughout-weaker _ orders.IsSteady (λ past d h. record { rises = h.0; one_count = h.1 }) (history_of us) (steady us none))
 
 -- ---- All that is asked
 
@@ -117,7 +115,7 @@ first-of-stream c us u h id v s stood few r peek is head_is au_is changed named 
     let picture : is_picture i ≡ true = picture-is us u h true id r peek in
     let head : (fact_behind us u).placed.item.head ≡ s.head = ap (λ (x : Item). x.head) (item-of us u) ∙ unit-head us u h Role.Slice r ∙ sym head_is in
     let sets : sets_of (facts_of us) (placed_behind us u) ≡ sets_by s.served.active =
-    named-first (facts_of us) (placed_behind us u) (segment-is us u h r) (picture) ∙ named in
+        named-first (facts_of us) (placed_behind us u) (segment-is us u h r) (picture) ∙ named in
     record {
       of_stream = fact-told us u ∙ ap (fact (facts_in (history_of us))) (sym (placed-of us u));
       picture = ap is_picture (item-of us u) ∙ picture;
@@ -132,8 +130,8 @@ first-of-stream c us u h id v s stood few r peek is head_is au_is changed named 
       anchored = anchored us u;
       few = subst (λ n. n + 1 < 2 ^ 64) (sym (history-length us)) few;
       behind_base = λ above. subst (λ n. option_map (λ (b : Judged). nat_eq (au b.fact) n) (look (history_of us) (fact_behind us u)).base ≡ Some true) (au-of us u ∙ sym au_is)
-          (base-behind us u kept picture (ap (λ (x : UnitHead). nat_eq x.layer 0) (unit-head us u h Role.Slice r ∙ sym head_is) ∙ above));
+        (base-behind us u kept picture (ap (λ (x : UnitHead). nat_eq x.layer 0) (unit-head us u h Role.Slice r ∙ sym head_is) ∙ above));
       steady = steady-behind us u stood.sound.breaks unit picture;
       goes_on = λ rule n. subst (λ past. layers.IsSound (held_of past n)) (history-more us u)
-          (held-sound (us ++ u ∷ []) n (sound-more c.decoder.asked us u stood.sound r.clean (first-accepted c.decoder.asked us u picture (unfold first_of in r.decides.0) header.none unit rule)).breaks);
+        (held-sound (us ++ u ∷ []) n (sound-more c.decoder.asked us u stood.sound r.clean (first-accepted c.decoder.asked us u picture (unfold first_of in r.decides.0) header.none unit rule)).breaks);
     }

@@ -71,15 +71,13 @@ pub joined : {R W P : Type 0} (old new : Course R W P) (us : List (List ℕ)) (u
     new ≡ record old { units = new.units; decoder = new.decoder } → new.decoder.asked ≡ old.decoder.asked → Joins us u old new (Ok step)
 joined {R} {W} {P} old new us u h step s told answered tracked between rest asked =
     let is : step ≡ step_behind us u = (let e : Ok step ≡ Ok (step_behind us u) = answered ∙ answer-other us u (told-no_slice (item_behind us u) h told) in cc) in
-    let vps : new.vps ≡ old.vps = ap (λ (c : Course R W P). c.vps) rest in (
-      record {
-        units_are = tracked;
-        decoder_is = subst (λ v. DecoderStands new.decoder v (history_of us) (number (placed_units us) (item_behind us u))) (sym vps)
-            (between-stands old.decoder new.decoder old.vps us u step.begins (sym (ap (λ (t : AuStep). t.begins) is)) between s.decoder_is);
-        vps_is = vps;
-        changed_is = ap (λ (c : Course R W P). c.changed) rest;
-        sets_are = ap (λ (c : Course R W P). c.sets) rest;
-        asked_is = asked;
-      },
-      is,
-    )
+    let vps : new.vps ≡ old.vps = ap (λ (c : Course R W P). c.vps) rest in
+    (record {
+      units_are = tracked;
+      decoder_is = subst (λ v. DecoderStands new.decoder v (history_of us) (number (placed_units us) (item_behind us u))) (sym vps)
+        (between-stands old.decoder new.decoder old.vps us u step.begins (sym (ap (λ (t : AuStep). t.begins) is)) between s.decoder_is);
+      vps_is = vps;
+      changed_is = ap (λ (c : Course R W P). c.changed) rest;
+      sets_are = ap (λ (c : Course R W P). c.sets) rest;
+      asked_is = asked;
+    }, is)

@@ -24,7 +24,7 @@ pub can-keep_sps : {R W P : Type 0} (c : Course R W P) (us : List (List ℕ)) (u
 unfolding sps_payload
 can-keep_sps c us u h carried s few r carries =
     let valid : (vps_sub_layers : ℕ) × (tail : Option (List Bool)) × ValidPayload (sps_payload (item_behind us u).head.layer vps_sub_layers) (carried.value.0, tail) =
-    sps-valid us u (sps_carried h.layer carried) carried.value.0 carries refl in
+        sps-valid us u (sps_carried h.layer carried) carried.value.0 carries refl in
     let kept = sps-kept (item_behind us u).head.layer valid.0 carried.value.0 valid.2.fields in
     let count : c.sets.sps.count ≡ length (filter_map (λ (f : Fact). f.sps_unit) (since turned (facts_of us))) = s.sets_are.sps.count_is in
     let most : length (filter_map (λ (f : Fact). f.sps_unit) (since turned (facts_of us))) ≤ length us = received-few (λ (f : Fact). f.sps_unit) us in

@@ -36,7 +36,7 @@ use Rattle.mv_walk.specs.declared.course.Course.{Course}
 open-there : (v : WholeVps) (picture : Option OpenValue) (past : List Judged) (n k : ℕ) → HasPicture past k n → open_picture.Stands v picture past n → picture ≡ None → ⊥
 open-there v None past n k has h none =
     let here : (option_map (in_au n) (find (λ (d : Judged). judgements.is_picture d.fact) past) otherwise false) ≡ true =
-    ap (λ o. option_map (in_au n) o otherwise false) has.latest ∙ eq-eqb (au has.it.fact) n has.here in
+        ap (λ o. option_map (in_au n) o otherwise false) has.latest ∙ eq-eqb (au has.it.fact) n has.here in
     let wrong : true ≡ false = sym here ∙ h in cc
 open-there v (Some it) past n k has h none = let wrong : Some it ≡ None = none in cc
 

@@ -1,14 +1,10 @@
 pub mod Adding
-pub mod Answered
-pub mod Becoming
 pub mod Beginning
-pub mod Begun
 pub mod Calling
 pub mod Causes
 pub mod Closing
 pub mod Decoded
 pub mod Empty
-pub mod Ended
 pub mod FirstOf
 pub mod Joining
 pub mod Joins
@@ -23,9 +19,7 @@ pub mod Putting
 pub mod RoleParts
 pub mod Segments
 pub mod SetTakes
-pub mod SkippedBase
 pub mod Skipping
-pub mod Starting
 pub mod StoodMore
 pub mod Tried
 pub mod VpsTakes

@@ -61,23 +61,10 @@ pub first-taken : {R W P : Type 0} (taken : Decoder R W P) (vps : VpsInForceValu
 first-taken {R} {W} {P} taken vps s past p state told f serving irap is stands t =
     let none : picture_rule past p ≡ None = picture-taken past p irap ∙ t.0 in
     let kept : KeepsPictures taken (judged past p ∷ past) taken.making = t.1 none in
-    let are : AreTold past p told = t.3 in (
-      none,
-      record {
-        keeps = record {
-          states_are = stands;
-          pictures = record {
-            all = kept.all;
-            layers_are = kept.layers_are;
-            order_is = kept.order_is;
-            base_is = kept.base_is;
-            pictures_are = kept.pictures_are;
-            sequences_are = kept.sequences_are;
-            in_layer = kept.in_layer;
-          };
-        };
-        open_is = record { stands = first-stands vps.value (opened s told.1) past p (opens vps s past p told f are); serving = serving; few = few-told past p told.1 are.2 };
-        made = t.2 ∙ sym are.1;
-      },
-      ap₂ (λ (a : PicState) (c : Option ℤ). (a, c)) is are.0,
-    )
+    let are : AreTold past p told = t.3 in
+    (none, record {
+      keeps = record { states_are = stands; pictures = record {
+        all = kept.all; layers_are = kept.layers_are; order_is = kept.order_is; base_is = kept.base_is; pictures_are = kept.pictures_are; sequences_are = kept.sequences_are; in_layer = kept.in_layer } };
+      open_is = record { stands = first-stands vps.value (opened s told.1) past p (opens vps s past p told f are); serving = serving; few = few-told past p told.1 are.2 };
+      made = t.2 ∙ sym are.1;
+    }, ap₂ (λ (a : PicState) (c : Option ℤ). (a, c)) is are.0)

@@ -67,7 +67,7 @@ passed-end {R} {W} {P} old mid new us u h ends j s r vps changed units sets told
     (record {
       keeps = keeps (history_of us) p at j.decoder_is.keeps;
       open_is = subst (λ o. Opens mid.vps o (judged (history_of us) p ∷ history_of us) (number (placed_units us) (item_behind us u))) (sym (ap (λ (d : Decoder R W P). d.picture) rest))
-          (opens-over mid.vps mid.decoder.picture (history_of us) p (number (placed_units us) (item_behind us u)) (slice-none us u (no-slice us u h r)) j.decoder_is.open_is);
+        (opens-over mid.vps mid.decoder.picture (history_of us) p (number (placed_units us) (item_behind us u)) (slice-none us u (no-slice us u h r)) j.decoder_is.open_is);
       made = ap (λ (d : Decoder R W P). is_some d.making) rest ∙ j.decoder_is.made ∙ sym (ap (λ (d : Decoder R W P). is_decoded_open d.picture) rest);
     })
 

@@ -57,7 +57,7 @@ none-open : (v : WholeVps) (picture : Option OpenValue) (past : List Judged) (n 
 none-open v None past n none h = refl
 none-open v (Some it) past n none h =
     let here : (option_map (in_au n) (find (λ (d : Judged). is_picture d.fact) past) otherwise false) ≡ true =
-    ap (λ o. option_map (in_au n) o otherwise false) h.picture ∙ eq-eqb (judgements.au h.first.fact) n h.au_is in
+        ap (λ o. option_map (in_au n) o otherwise false) h.picture ∙ eq-eqb (judgements.au h.first.fact) n h.au_is in
     absurd (let e : false ≡ true = sym none ∙ here in cc)
 
 closed-at : (old : Option VpsInForceValue) (picture : Option OpenValue) (past : List Judged) (n : ℕ) → (option_map (in_au n) (find (λ (d : Judged). is_picture d.fact) past) otherwise false) ≡ false →
@@ -185,11 +185,10 @@ pub vps-takes : {R W P : Type 0} (old mid new : Course R W P) (us : List (List �
     TakesVps old.decoder.asked (item_behind us u) (Ok n) → PutsVps n step.au mid new → Takes old.decoder.asked us u new (Ok None)
 vps-takes old mid new us u h n step j s r t put =
     let is : is_vps (item_behind us u) ≡ true = video_is (item_behind us u) r.role_is in
-    let least_none : (least (item_cases (item_behind us u)) ≡ None) × (lacking old.decoder.asked (item_behind us u) ≡ None) = accepts n t in (
-      vps-accepted old.decoder.asked us u is least_none.0 least_none.1,
-      vps-stood old mid new us u h n j.0 s r t (subst (λ (a : AuStep). PutsVps n a.au mid new) j.1 put),
-      sym (told-none us u (vps-no_slice us u is)),
-    )
+    let least_none : (least (item_cases (item_behind us u)) ≡ None) × (lacking old.decoder.asked (item_behind us u) ≡ None) = accepts n t in
+    (vps-accepted old.decoder.asked us u is least_none.0 least_none.1,
+    vps-stood old mid new us u h n j.0 s r t (subst (λ (a : AuStep). PutsVps n a.au mid new) j.1 put),
+    sym (told-none us u (vps-no_slice us u is)))
   where
     accepts : (n : NewVps) → TakesVps old.decoder.asked (item_behind us u) (Ok n) → (least (item_cases (item_behind us u)) ≡ None) × (lacking old.decoder.asked (item_behind us u) ≡ None)
     accepts NewVps.Repeated t = (t.0, t.1)

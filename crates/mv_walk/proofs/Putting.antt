@@ -23,11 +23,10 @@ pub changed-put : {R W P : Type 0} (n : NewVps) (v : VpsInForceValue) (au : ℕ)
     ((past : List Fact) (f : Fact) → turned f ≡ true → store.Stands mid.sets (f ∷ past)) → PutsVps n au old new
 changed-put {R} {W} {P} n v au old mid new is before e stands =
     let whole : IsNewVps v mid new = new-is v mid new e in
-    subst (λ (m : NewVps). PutsVps m au old new) (sym is) (
-      record { vps_is = whole.vps_is; units_are = whole.units_are ∙ ap (λ (c : Course R W P). c.units) before; decoder_is = whole.decoder_is ∙ ap (λ (c : Course R W P). c.decoder) before },
-      (λ past f t. subst (λ (s : StoreValue). store.Stands s (f ∷ past)) (sym (ap (λ (c : Course R W P). c.sets) e)) (stands past f t)),
-      ap (λ (c : Course R W P). c.changed) e ∙ ap (λ (c : Course R W P). c.changed) before,
-    )
+    subst (λ (m : NewVps). PutsVps m au old new) (sym is)
+    (record { vps_is = whole.vps_is; units_are = whole.units_are ∙ ap (λ (c : Course R W P). c.units) before; decoder_is = whole.decoder_is ∙ ap (λ (c : Course R W P). c.decoder) before },
+    (λ past f t. subst (λ (s : StoreValue). store.Stands s (f ∷ past)) (sym (ap (λ (c : Course R W P). c.sets) e)) (stands past f t)),
+    ap (λ (c : Course R W P). c.changed) e ∙ ap (λ (c : Course R W P). c.changed) before)
 
 pub put-asked : {R W P : Type 0} (n : NewVps) (au : ℕ) (old new : Course R W P) → PutsVps n au old new → new.decoder.asked ≡ old.decoder.asked
 put-asked {R} {W} {P} NewVps.Repeated au old new put = ap (λ (c : Course R W P). c.decoder.asked) put

@@ -63,7 +63,7 @@ unread o new us u h (ReadFault.Refused rule) r why =
     let none : (item_behind us u).opening ≡ None = unit-opening us u h Role.Slice r ∙ why.1 in
     let of_fact : (fact_behind us u).placed.item.opening ≡ None = ap (λ (i : Item). i.opening) (item-of us u) ∙ none in
     let refused : segment_rule (fact_behind us u) ≡ Some rule =
-    ap (λ x. rule_of_segment x (fact_behind us u).sets (fact_behind us u).header) of_fact ∙ ap Some (sym why.0) in
+        ap (λ x. rule_of_segment x (fact_behind us u).sets (fact_behind us u).header) of_fact ∙ ap Some (sym why.0) in
     later-segment o us u rule (segment-is us u h r) (both-none (is_slice (item_behind us u)) (is_first_segment (item_behind us u).opening) (ap is_first_segment none)) r.decides.0 refused
 unread o new us u h ReadFault.Memory r why = tt
 
@@ -91,15 +91,14 @@ pub first-takes : {R W P : Type 0} (old new : Course R W P) (us : List (List ℕ
 unfolding first_of
 first-takes old new us u h id v header told s r peek is header_is unit t asked vps changed sets units =
     let picture : is_picture (item_behind us u) ≡ true = picture-is us u h true id r peek in
-    let accepted : objected old.decoder.asked us u ≡ None = first-accepted old.decoder.asked us u picture r.decides.0 header_is.none unit t.0 in (
-      accepted,
-      slice-stood old new us u h s r accepted asked vps changed sets units
-          (subst (λ x. DecoderStands new.decoder x (judged (history_of us) (fact_behind us u) ∷ history_of us) (number (placed_units us) (item_behind us u))) (sym is)
-          (subst (DecoderStands new.decoder (Some v) (judged (history_of us) (fact_behind us u) ∷ history_of us)) (au-of us u) t.1)),
-      ap Some t.2
-          ∙ sym (ap (λ b. cond b (Some (state_of (look (history_of us) (fact_behind us u)) (fact_behind us u), within_range (count (look (history_of us) (fact_behind us u)) (fact_behind us u)))) None)
-          (ap is_picture (item-of us u) ∙ picture)),
-    )
+    let accepted : objected old.decoder.asked us u ≡ None = first-accepted old.decoder.asked us u picture r.decides.0 header_is.none unit t.0 in
+    (accepted,
+    slice-stood old new us u h s r accepted asked vps changed sets units
+    (subst (λ x. DecoderStands new.decoder x (judged (history_of us) (fact_behind us u) ∷ history_of us) (number (placed_units us) (item_behind us u))) (sym is)
+    (subst (DecoderStands new.decoder (Some v) (judged (history_of us) (fact_behind us u) ∷ history_of us)) (au-of us u) t.1)),
+    ap Some t.2
+    ∙ sym (ap (λ b. cond b (Some (state_of (look (history_of us) (fact_behind us u)) (fact_behind us u), within_range (count (look (history_of us) (fact_behind us u)) (fact_behind us u)))) None)
+      (ap is_picture (item-of us u) ∙ picture)))
 
 pub first-refused : {R W P : Type 0} (o : ℕ) (old new : Course R W P) (us : List (List ℕ)) (u : List ℕ) (h : UnitHead) (id : ℕ) (v : VpsInForceValue) (header : SliceHead) (stop : Stop) → IsRole us u h Role.Slice →
     Peeks u h true id → IsHeader header (fact_behind us u) → broken (placed_units us) (placed_behind us u) ≡ None → TakesFirst v (history_of us) (fact_behind us u) old.decoder (Err stop) → Takes o us u new (Err stop)
@@ -131,14 +130,13 @@ pub later-takes : {R W P : Type 0} (old new : Course R W P) (us : List (List ℕ
 unfolding first_of placed
 later-takes old new us u h id v header s r peek is header_is unit t asked vps changed sets units =
     let later : is_picture (item_behind us u) ≡ false = picture-is us u h false id r peek in
-    let accepted : objected old.decoder.asked us u ≡ None = later-accepted old.decoder.asked us u (segment-is us u h r) later r.decides.0 header_is.none unit (same-rule us u None t.0) in (
-      accepted,
-      slice-stood old new us u h s r accepted asked vps changed sets units
-          (subst (λ x. DecoderStands new.decoder x (judged (history_of us) (fact_behind us u) ∷ history_of us) (number (placed_units us) (item_behind us u))) (sym is)
-          (subst (λ (p : Fact). DecoderStands new.decoder (Some v) (judged (history_of us) p ∷ history_of us) (number (placed_units us) (item_behind us u))) (sym (fact-told us u)) t.1)),
-      sym (ap (λ b. cond b (Some (state_of (look (history_of us) (fact_behind us u)) (fact_behind us u), within_range (count (look (history_of us) (fact_behind us u)) (fact_behind us u)))) None)
-          (ap is_picture (item-of us u) ∙ later)),
-    )
+    let accepted : objected old.decoder.asked us u ≡ None = later-accepted old.decoder.asked us u (segment-is us u h r) later r.decides.0 header_is.none unit (same-rule us u None t.0) in
+    (accepted,
+    slice-stood old new us u h s r accepted asked vps changed sets units
+    (subst (λ x. DecoderStands new.decoder x (judged (history_of us) (fact_behind us u) ∷ history_of us) (number (placed_units us) (item_behind us u))) (sym is)
+    (subst (λ (p : Fact). DecoderStands new.decoder (Some v) (judged (history_of us) p ∷ history_of us) (number (placed_units us) (item_behind us u))) (sym (fact-told us u)) t.1)),
+    sym (ap (λ b. cond b (Some (state_of (look (history_of us) (fact_behind us u)) (fact_behind us u), within_range (count (look (history_of us) (fact_behind us u)) (fact_behind us u)))) None)
+      (ap is_picture (item-of us u) ∙ later)))
 
 pub later-refused : {R W P : Type 0} (o : ℕ) (old new : Course R W P) (us : List (List ℕ)) (u : List ℕ) (h : UnitHead) (id : ℕ) (v : VpsInForceValue) (header : SliceHead) (stop : Stop) → IsRole us u h Role.Slice →
     Peeks u h false id → IsHeader header (fact_behind us u) → broken (placed_units us) (placed_behind us u) ≡ None → TakesLater v (history_of us) (placed_behind us u) old.decoder (Err stop) → Takes o us u new (Err stop)

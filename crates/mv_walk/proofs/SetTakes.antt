@@ -67,7 +67,7 @@ sps-new o us u h carried r t =
       layer_is = layer;
       carried_is = t.2 ∙ ap (λ n. Some (sps_carried n carried)) layer;
       accepted = sequence-accepted o us u (sps_is (item_behind us u) r.role_is).kind
-          (first_append (item_cases (item_behind us u)) (set_cases (fact_behind us u)) ∙ ap (λ x. option_or x (first_of (set_cases (fact_behind us u)))) t.0 ∙ t.1);
+        (first_append (item_cases (item_behind us u)) (set_cases (fact_behind us u)) ∙ ap (λ x. option_or x (first_of (set_cases (fact_behind us u)))) t.0 ∙ t.1);
     }
 
 -- ---- Picture parameter sets

@@ -192,7 +192,7 @@ asked-is base vps s past p f skipped =
     ask h b bits m = record { layer = h.layer; kind = h.kind; tid = h.tid; start = b; lsb = bits; max_lsb = m; base = base_in base s.head.layer }
 
 -- what is told of the count
-unfoldable pub told_of : Result ℤ Rule → Option ℤ
+pub told_of : Result ℤ Rule → Option ℤ
 told_of (Ok c) = Some c
 told_of (Err rule) = None
 
@@ -231,24 +231,22 @@ mid-is vps s past p f skipped = taken-skipped past p skipped ∙ mid-goes vps s 
 
 pub upper-takes : {R W P : Type 0} (d : Decoder R W P) (vps : VpsInForceValue) (s : FirstSegment) (past : List Judged) (p : Fact) → KeepsPictures d past None → IsFirst vps s past p → is_decoded (look past p) p ≡ false →
     nat_eq s.head.layer 0 ≡ false → d.making ≡ None → TakesPicture past p d (Ok (None, None))
-upper-takes {R} {W} {P} d vps s past p k f skipped above making = (
-  mid-is vps s past p f skipped ∙ ap (λ z. cond (z && s.behind_change) (Some Rule.VpsMidCvs) None) above,
-  λ rule. subst (λ (m : Option (Making R W P)). KeepsPictures d (judged past p ∷ past) m) (sym making) (skip-upper d vps s past p k f skipped (of-head vps s past p false f above)),
-  ap is_some making ∙ sym skipped,
-  (sym (ap within (skipped-count (look past p) p skipped (of-head vps s past p false f above))), sym skipped, tt),
-)
+upper-takes {R} {W} {P} d vps s past p k f skipped above making =
+    (mid-is vps s past p f skipped ∙ ap (λ z. cond (z && s.behind_change) (Some Rule.VpsMidCvs) None) above,
+    λ rule. subst (λ (m : Option (Making R W P)). KeepsPictures d (judged past p ∷ past) m) (sym making) (skip-upper d vps s past p k f skipped (of-head vps s past p false f above)),
+    ap is_some making ∙ sym skipped,
+    (sym (ap within (skipped-count (look past p) p skipped (of-head vps s past p false f above))), sym skipped, tt))
 
 pub base-takes : {R W P : Type 0} (old new : Decoder R W P) (vps : VpsInForceValue) (s : FirstSegment) (past : List Judged) (p : Fact) (c : Option ℤ) → KeepsPictures old past None → IsFirst vps s past p →
     is_decoded (look past p) p ≡ false → nat_eq s.head.layer 0 ≡ true → (nat_eq s.head.layer 0 && s.behind_change) ≡ false → c ≡ within (count (look past p) p) →
     new.layers.items ≡ slice_set old.layers.items 0 (with_count (asked_within (look past p) p) (layer_at old.layers.items 0)) → new.base_count ≡ c → new.order ≡ old.order → new.pictures ≡ old.pictures →
     new.sequences ≡ old.sequences → new.making ≡ None → TakesPicture past p new (Ok (c, None))
-base-takes {R} {W} {P} old new vps s past p c k f skipped zero same is kept base order pictures sequences making = (
-  mid-is vps s past p f skipped ∙ ap (λ b. cond b (Some Rule.VpsMidCvs) None) same,
-  λ rule. subst (λ (m : Option (Making R W P)). KeepsPictures new (judged past p ∷ past) m) (sym making)
-      (skip-base old new vps s past p k f skipped (of-head vps s past p true f zero) kept (base ∙ is) order pictures sequences),
-  ap is_some making ∙ sym skipped,
-  (is, sym skipped, tt),
-)
+base-takes {R} {W} {P} old new vps s past p c k f skipped zero same is kept base order pictures sequences making =
+    (mid-is vps s past p f skipped ∙ ap (λ b. cond b (Some Rule.VpsMidCvs) None) same,
+    λ rule. subst (λ (m : Option (Making R W P)). KeepsPictures new (judged past p ∷ past) m) (sym making)
+    (skip-base old new vps s past p k f skipped (of-head vps s past p true f zero) kept (base ∙ is) order pictures sequences),
+    ap is_some making ∙ sym skipped,
+    (is, sym skipped, tt))
 
 pub base-refused : {R W P : Type 0} (new : Decoder R W P) (vps : VpsInForceValue) (s : FirstSegment) (past : List Judged) (p : Fact) → IsFirst vps s past p → is_decoded (look past p) p ≡ false →
     (nat_eq s.head.layer 0 && s.behind_change) ≡ true → TakesPicture past p new (Err (Stop.Breaks Rule.VpsMidCvs))

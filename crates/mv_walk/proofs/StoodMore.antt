@@ -139,11 +139,10 @@ stray-taken c new us u h e s r =
 pub stray-takes : {R W P : Type 0} (c new : Course R W P) (us : List (List ℕ)) (u : List ℕ) (h : UnitHead) → new ≡ record c { last = new.last } → Stood c us → IsRole us u h Role.Stray →
     Takes c.decoder.asked us u new (Ok None)
 stray-takes c new us u h e s r =
-    let k : IsStray (is_vps (item_behind us u)) (is_known (item_behind us u)) = stray_is (item_behind us u) r.role_is in (
-      stray-unobjected c.decoder.asked us u h r,
-      stray-taken c new us u h e s r,
-      sym (told-none us u (ap (λ b. b && is_slice_kind (item_behind us u).head.kind) k.unknown)),
-    )
+    let k : IsStray (is_vps (item_behind us u)) (is_known (item_behind us u)) = stray_is (item_behind us u) r.role_is in
+    (stray-unobjected c.decoder.asked us u h r,
+    stray-taken c new us u h e s r,
+    sym (told-none us u (ap (λ b. b && is_slice_kind (item_behind us u).head.kind) k.unknown)))
 
 -- ---- A unit that is read no further than its head
 

@@ -3,6 +3,7 @@ pub mod Walking
 pub mod Decoders
 pub mod Firsts
 pub mod Laters
+pub mod Latest
 pub mod Courses
 pub mod Going
 pub mod Standing

@@ -1,9 +1,16 @@
 //! What a walker is asked.
-#![tactic(auto)]
+#![tactic(none)]
 
-ghost use Rattle.std.specs.Prelude.{ℕ, ◌≡◌, ◌+◌, ◌<◌, ◌^◌, [], Err, Some, None, List, length, IfErr, IfOk, if◌then◌else◌};
+ghost use Rattle.std.specs.Prelude.{ℕ, ◌≡◌, ◌+◌, ◌<◌, ◌^◌, [], ◌∷◌, ◌++◌, Err, Some, None, List, length, IfErr, IfOk, if◌then◌else◌};
 ghost use Rattle.mv_io.specs.Faults.{Rose};
 ghost use Rattle.mv_units.specs.Rules.{unit_rule};
+ghost use Rattle.std.specs.Option.{IfSome, option_copied};
+ghost use Rattle.mv_commuting.specs.OneMore.{fact_behind};
+ghost use Rattle.mv_pictures.specs.Extract.{last_vps};
+ghost use Rattle.mv_pictures.specs.History.{history_of, judged};
+ghost use Rattle.mv_pictures.specs.Layers.{whole};
+ghost use Rattle.mv_vps.specs.Vps.{ValidVps};
+ghost use Rattle.mv_walk.specs.Latest.{AreWithin, Carries, HasReferences, IsTaken, lists_told};
 ghost use Rattle.mv_walk.specs.Standing.{MayGo, Stands};
 ghost use Rattle.mv_walk.specs.Walking.{Closes, Walks};
 ghost use Rattle.mv_walk.specs.declared.ending.WalkError.{WalkError};
@@ -14,6 +21,7 @@ use crate::last::Carried;
 use crate::step::{Last, Step, Totals};
 use crate::walker::Walker;
 use mv_rebuild::{Rebuild, Viewer};
+use mv_slice::SliceContext;
 use mv_vps::Vps;
 use std::alloc::{AllocError, Global};
 
@@ -110,15 +118,32 @@ impl<R: Rebuild> Walker<R> {
     }
 
     /// The video parameter set in force, if there is one.
-    pub fn vps(&self) -> Option<&Vps> {
+    pub fn vps(&self) -> Option<&Vps>
+        ensures in_force { (us : List (List ℕ)) → Stands self.now us → option_copied result ≡ whole (last_vps us) }
+        ensures valid { (us : List (List ℕ)) → Stands self.now us → IfSome (option_copied result) (λ v. ValidVps v) }
+    {
         match &self.course.vps {
             Some(vps) => Some(&vps.value),
             None => None,
         }
     }
 
+    /// What the headers of the segments of the access unit's latest picture take from the sets that serve it. `None` where it has no
+    /// picture.
+    pub fn context(&self) -> Option<SliceContext<'_>>
+        requires { (us : List (List ℕ)) × Stands self.now us }
+        ensures { (us : List (List ℕ)) (u : List ℕ) → Stands self.now (us ++ u ∷ []) → IsTaken (fact_behind us u) result }
+    {
+        match (&self.course.vps, &self.course.decoder.picture) {
+            (Some(vps), Some(picture)) => Some(picture.served.context(&vps.value, picture.head)),
+            _ => None,
+        }
+    }
+
     /// What the latest unit carries.
-    pub fn last(&self) -> Last<'_> {
+    pub fn last(&self) -> Last<'_>
+        ensures { (us : List (List ℕ)) (u : List ℕ) → Stands self.now (us ++ u ∷ []) → Carries (fact_behind us u) result }
+    {
         match &self.course.last {
             Carried::Nothing => Last::Nothing,
             Carried::Vps => match &self.course.vps {
@@ -143,7 +168,11 @@ impl<R: Rebuild> Walker<R> {
 
     /// Of the latest unit, where it is a slice segment of a decoded picture, the picture's references, each by its layer and its
     /// count, and the segment's reference picture lists.
-    pub fn lists(&self) -> (&[(u8, i32)], &[u8], &[u8]) {
+    pub fn lists(&self) -> (&[(u8, i32)], &[u8], &[u8])
+        ensures within { (us : List (List ℕ)) → Stands self.now us → AreWithin (length result.0.now) result.1.0.now × AreWithin (length result.0.now) result.1.1.now }
+        ensures some { (us : List (List ℕ)) (u : List ℕ) → Stands self.now (us ++ u ∷ []) → HasReferences (history_of us) (judged (history_of us) (fact_behind us u)) }
+        ensures told { (us : List (List ℕ)) (u : List ℕ) → Stands self.now (us ++ u ∷ []) → (result.0.now, (result.1.0.now, result.1.1.now)) ≡ lists_told (history_of us) (judged (history_of us) (fact_behind us u)) }
+    {
         match &self.course.last {
             Carried::First => self.course.decoder.lists(),
             Carried::Later(_) => self.course.decoder.lists(),
@@ -153,6 +182,7 @@ impl<R: Rebuild> Walker<R> {
 }
 
 // How many units are kept, with one more.
+#[tactic(auto)]
 fn kept_with(count: u64, kept: bool) -> u64
     ensures { count + 1 < 2 ^ 64 → result ≡ count + (if kept then 1 else 0) }
 {

@@ -1,5 +1,5 @@
 //! The course of a stream: what is kept of it from unit to unit.
-#![tactic(auto)]
+#![tactic(none)]
 
 ghost use Rattle.std.specs.Prelude.{ℕ, ◌≡◌, ◌+◌, ◌<◌, ◌^◌, [], None, List, length, IfOk};
 ghost use Rattle.mv_units.specs.Rules.{unit_rule};
@@ -37,6 +37,7 @@ pub(crate) struct Course<R: Rebuild> {
 
 impl<R: Rebuild> Course<R> {
     /// The course of a stream without units, where an output layer set is asked for.
+    #[tactic(auto)]
     pub(crate) fn new(alloc: Global, asked: u32) -> Result<Course<R>, AllocError>
         ensures stood { IfOk result (λ c. Stood c []) }
         ensures asked { IfOk result (λ c. c.decoder.asked ≡ asked) }
@@ -118,6 +119,7 @@ impl<R: Rebuild> Course<R> {
 }
 
 // How many layers a video parameter set has.
+#[tactic(auto)]
 fn layers_of(vps: &Vps) -> u8
     requires { ValidVps vps.now }
     ensures { result ≡ length vps.now.derived.layers }

@@ -1,7 +1,7 @@
 //! What is decoded of a stream: the pictures of each layer, and the pictures that wait for their output.
-#![tactic(auto)]
+#![tactic(none)]
 
-ghost use Rattle.std.specs.Prelude.{ℕ, ◌≡◌, ◌≤◌, ◌<◌, ◌+◌, ◌^◌, ◌∷◌, [], true, false, List, All, AllPairs, Some, None, Err, IfOk, IfErr, OnOk, is_some, length, nat_eq, replicate, slice_set, if◌then◌else◌};
+ghost use Rattle.std.specs.Prelude.{ℕ, ◌≡◌, ◌≤◌, ◌<◌, ◌+◌, ◌^◌, ◌∷◌, [], true, false, List, All, AllPairs, Some, None, Err, IfOk, IfErr, OnOk, is_some, length, replicate, slice_set};
 ghost use Rattle.std.specs.Option.{IfSome};
 ghost use Rattle.mv_io.specs.Faults.{HasCause};
 ghost use Rattle.mv_pictures.specs.AccessUnits.{Placed};
@@ -59,6 +59,7 @@ pub(crate) struct Decoder<R: Rebuild> {
 }
 
 // No pictures of any layer.
+#[tactic(auto)]
 fn no_layers<P: Drop>(alloc: Global) -> Result<Vec<LayerPictures<P>>, AllocError>
     ensures { IfOk result (λ layers. layers.items ≡ replicate 64 no_pictures) }
 {
@@ -101,18 +102,21 @@ impl<R: Rebuild> Decoder<R> {
         })
     }
 
+    #[tactic(auto)]
     pub(crate) fn picture(&self) -> &Option<OpenPicture>
         ensures { result.now ≡ self.now.picture }
     {
         &self.picture
     }
 
+    #[tactic(auto)]
     pub(crate) fn pictures(&self) -> u64
         ensures { result ≡ self.now.pictures }
     {
         self.pictures
     }
 
+    #[tactic(auto)]
     pub(crate) fn sequences(&self) -> u64
         ensures { result ≡ self.now.sequences }
     {
@@ -135,6 +139,7 @@ impl<R: Rebuild> Decoder<R> {
     }
 
     /// A sequence ends in a layer, or the bitstream in layer 0.
+    #[tactic(auto)]
     pub(crate) fn eos(&mut self, layer: u8)
         requires { layer < 64 }
         ensures keeps { (past : List Judged) (q : Fact) → IsEndOf layer q → Keeps self.old past self.old.making → Keeps self.new (judged past q ∷ past) self.new.making }
@@ -202,6 +207,7 @@ impl<R: Rebuild> Decoder<R> {
     }
 
     // The access unit is complete: what leaves is shown.
+    #[tactic(auto)]
     fn complete<V: Viewer<R::Pic>>(&mut self, viewer: &mut V) -> Result<(), Stop>
         ensures rest { IsButQueue self.old self.new }
         ensures view { IfErr result (λ stop. stop ≡ StopValue.View) }
@@ -216,6 +222,7 @@ impl<R: Rebuild> Decoder<R> {
     }
 
     // All that waits is shown.
+    #[tactic(auto)]
     fn flush<V: Viewer<R::Pic>>(&mut self, viewer: &mut V) -> Result<(), Stop>
         ensures rest { IsButQueue self.old self.new }
         ensures view { IfErr result (λ stop. stop ≡ StopValue.View) }
@@ -284,6 +291,7 @@ impl<R: Rebuild> Decoder<R> {
         }
     }
 
+    #[tactic(auto)]
     fn complete_if<V: Viewer<R::Pic>>(&mut self, viewer: &mut V, begins: bool) -> Result<(), Stop>
         ensures rest { IsButQueue self.old self.new }
         ensures view { IfErr result (λ stop. stop ≡ StopValue.View) }
@@ -441,13 +449,12 @@ impl<R: Rebuild> Decoder<R> {
         ensures asked { self.new.asked ≡ self.old.asked }
         ensures cause { HasViewCause (V.viewing.faults viewer.old) (V.viewing.faults viewer.new) result }
     {
-        if segment.head.layer != 0 {
-            return self.decode(rebuild, vps, segment, unit, true);
+        if segment.head.layer == 0 {
+            if let Err(stop) = self.start_sequence(viewer, vps, segment) {
+                return Err(stop);
+            }
         }
-        match self.start_sequence(viewer, vps, segment) {
-            Ok(()) => self.decode(rebuild, vps, segment, unit, true),
-            Err(stop) => Err(stop),
-        }
+        self.decode(rebuild, vps, segment, unit, true)
     }
 
     // A base picture that starts no sequence. Tries the rule VpsMidCvs.
@@ -461,12 +468,14 @@ impl<R: Rebuild> Decoder<R> {
     }
 
     // The count of the base picture of the access unit, for a picture of another layer.
+    #[tactic(auto)]
     fn base_for(&self, layer: u8) -> Option<i32>
         ensures { result ≡ base_in self.now.base_count layer }
     {
         if layer == 0 { None } else { self.base_count }
     }
 
+    #[tactic(auto)]
     fn place(&self, segment: &FirstSegment, start: bool) -> First
         ensures { result ≡ place self.now.base_count segment.now start }
     {
@@ -536,18 +545,10 @@ impl<R: Rebuild> Decoder<R> {
             Ok(decided) => decided,
             Err(fault) => return Err(Stop::of_decided(fault)),
         };
-        self.keep_count(segment.head.layer, decided.count);
-        self.begin(rebuild, vps, segment, unit, start, decided)
-    }
-
-    // The count of a base picture.
-    #[tactic(auto)]
-    fn keep_count(&mut self, layer: u8, count: i32)
-        ensures { self.new ≡ record self.old { base_count = if nat_eq layer 0 then Some count else self.old.base_count } }
-    {
-        if layer == 0 {
-            self.base_count = Some(count);
+        if segment.head.layer == 0 {
+            self.base_count = Some(decided.count);
         }
+        self.begin(rebuild, vps, segment, unit, start, decided)
     }
 
     // It is in the making.

@@ -1,5 +1,5 @@
 //! The first segment of a picture.
-#![tactic(auto)]
+#![tactic(none)]
 
 use mv_slice::SliceHead;
 use mv_units::UnitHead;

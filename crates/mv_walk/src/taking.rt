@@ -1,5 +1,5 @@
 //! How each kind of unit is taken.
-#![tactic(auto)]
+#![tactic(none)]
 
 ghost use Rattle.std.specs.Prelude.{ℕ, ◌≡◌, ◌≤◌, ◌<◌, ◌+◌, ◌^◌, ◌∷◌, ◌++◌, [], true, false, List, Some, None, Ok, Err, IfOk, IfErr, OnOk, length};
 ghost use Rattle.mv_au.specs.Tracker.{IsTold};

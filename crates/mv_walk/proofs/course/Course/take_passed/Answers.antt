@@ -24,11 +24,10 @@ pub pass-requires : goal.pass-requires
 pass-requires g c = c.requires.may.1.its_role.low
 
 pub returns-clause-takes : goal.returns-clause-takes
-returns-clause-takes g c = λ us u stood few role. (
-  passed-unobjected c.args.self.now.decoder.asked us u c.args.head role,
-  c.pass.ensures.passed us u c.args.self.now (c.in_default.ensures.joins us u stood few (told-passed us u c.args.head role)).0 stood role,
-  sym (told-none us u (no-slice us u c.args.head role)),
-)
+returns-clause-takes g c = λ us u stood few role.
+    (passed-unobjected c.args.self.now.decoder.asked us u c.args.head role,
+    c.pass.ensures.passed us u c.args.self.now (c.in_default.ensures.joins us u stood few (told-passed us u c.args.head role)).0 stood role,
+    sym (told-none us u (no-slice us u c.args.head role)))
 
 pub returns-clause-asked : goal.returns-clause-asked
 returns-clause-asked g c = c.pass.ensures.asked ∙ c.join.ensures.asked

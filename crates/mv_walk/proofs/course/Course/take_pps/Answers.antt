@@ -16,10 +16,8 @@ join-requires g c = record { has = record { units = c.requires.may.units; stood 
 pub put_pps-requires : goal.put_pps-requires
 put_pps-requires g c =
     let m = c.requires.may in
-    record {
-      can = subst (λ (s : StoreValue). CanKeepPps s c.args.head.layer c.in-Ok.carried) (sym (ap (λ (x : Course g.row.R.Denot g.row.R-Work.Denot g.row.R-Pic.Denot). x.sets) c.join.ensures.rest))
-          (can-keep_pps c.args.self.now m.units c.args.unit.now c.args.head c.in-Ok.carried m.stood m.few m.its_role (pps-new c.args.self.now.decoder.asked m.units c.args.unit.now c.args.head c.in-Ok.carried m.its_role (pps-answers m.units c.args.unit.now c.args.head (Ok c.in-Ok.carried) m.its_role c.in-Ok.ensures)).carried_is);
-    }
+    record { can = subst (λ (s : StoreValue). CanKeepPps s c.args.head.layer c.in-Ok.carried) (sym (ap (λ (x : Course g.row.R.Denot g.row.R-Work.Denot g.row.R-Pic.Denot). x.sets) c.join.ensures.rest))
+      (can-keep_pps c.args.self.now m.units c.args.unit.now c.args.head c.in-Ok.carried m.stood m.few m.its_role (pps-new c.args.self.now.decoder.asked m.units c.args.unit.now c.args.head c.in-Ok.carried m.its_role (pps-answers m.units c.args.unit.now c.args.head (Ok c.in-Ok.carried) m.its_role c.in-Ok.ensures)).carried_is) }
 
 pub returns-in-Ok-join-clause-takes : goal.returns-in-Ok-join-clause-takes
 returns-in-Ok-join-clause-takes g c = λ us stood few role.

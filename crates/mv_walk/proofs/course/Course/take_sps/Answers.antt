@@ -31,10 +31,8 @@ join-requires g c = record { has = record { units = c.requires.may.units; stood 
 pub put_sps-requires : goal.put_sps-requires
 put_sps-requires g c =
     let m = c.requires.may in
-    record {
-      can = subst (λ (s : StoreValue). CanKeepSps s c.args.head.layer c.in-Ok.carried) (sym (ap (λ (x : Course g.row.R.Denot g.row.R-Work.Denot g.row.R-Pic.Denot). x.sets) c.join.ensures.rest))
-          (can-keep_sps c.args.self.now m.units c.args.unit.now c.args.head c.in-Ok.carried m.stood m.few m.its_role (sps-new c.args.self.now.decoder.asked m.units c.args.unit.now c.args.head c.in-Ok.carried m.its_role (sps-answers c.args.self.now m.units c.args.unit.now c.args.head c.in-Some.vps (Ok c.in-Ok.carried) m.stood m.its_role c.in-Some.is c.in-Ok.ensures)).carried_is);
-    }
+    record { can = subst (λ (s : StoreValue). CanKeepSps s c.args.head.layer c.in-Ok.carried) (sym (ap (λ (x : Course g.row.R.Denot g.row.R-Work.Denot g.row.R-Pic.Denot). x.sets) c.join.ensures.rest))
+      (can-keep_sps c.args.self.now m.units c.args.unit.now c.args.head c.in-Ok.carried m.stood m.few m.its_role (sps-new c.args.self.now.decoder.asked m.units c.args.unit.now c.args.head c.in-Ok.carried m.its_role (sps-answers c.args.self.now m.units c.args.unit.now c.args.head c.in-Some.vps (Ok c.in-Ok.carried) m.stood m.its_role c.in-Some.is c.in-Ok.ensures)).carried_is) }
 
 pub returns-in-Ok-join-clause-takes : goal.returns-in-Ok-join-clause-takes
 returns-in-Ok-join-clause-takes g c = λ us stood few role.

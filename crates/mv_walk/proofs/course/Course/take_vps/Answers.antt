@@ -26,7 +26,7 @@ join-requires g c = record { has = record { units = c.requires.may.units; stood 
 pub returns-in-Ok-join-clause-takes : goal.returns-in-Ok-join-clause-takes
 returns-in-Ok-join-clause-takes g c = λ us stood few role.
     let t = vps-takes c.args.self.now c.join.new.self c.put_vps.new.self us c.args.unit.now c.args.head c.in-Ok.new c.in-Ok-join.step (c.in-Ok-join.ensures.joins us c.args.unit.now stood few (told-vps us c.args.unit.now c.args.head role)) stood role
-    (vps-answers c.args.self.now us c.args.unit.now c.args.head c.args.self.now.decoder.asked _ (Ok c.in-Ok.new) stood role c.as_ref.ensures.value c.in-Ok.ensures.takes) c.put_vps.ensures.put in
+      (vps-answers c.args.self.now us c.args.unit.now c.args.head c.args.self.now.decoder.asked _ (Ok c.in-Ok.new) stood role c.as_ref.ensures.value c.in-Ok.ensures.takes) c.put_vps.ensures.put in
     (t.0, t.1, c.put_vps.ensures.none ∙ t.2)
 
 pub returns-in-Ok-join-clause-asked : goal.returns-in-Ok-join-clause-asked
