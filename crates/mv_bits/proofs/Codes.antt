@@ -39,7 +39,7 @@ ue_one_bit most leading v (true ∷ left) rest e some =
 
 -- ---- a whole code in hand
 
--- The first one of the word has `behind` bits behind it and `leading` zeros before it, at most as many.
+-- the first one of the word has `behind` bits behind it and `leading` zeros before it, at most as many
 pub ue_in_window : (leading behind word : ℕ) (bytes : List ℕ) → leading ≤ behind → leading ≤ 31 → 2 ^ behind ≤ word → word < 2 ^ suc behind → (let after = behind - leading in let code = word / 2 ^ after in take_ue (window_bits (leading + suc behind) word bytes) ≡ Ok (code - 1, window_bits after (word % 2 ^ after) bytes))
 unfolding window_bits
 ue_in_window leading behind word bytes whole most low high =
@@ -69,7 +69,7 @@ ue_in_window leading behind word bytes whole most low high =
 pub exponent_lt : (j k n : ℕ) → 2 ^ j ≤ n → n < 2 ^ k → j < k
 exponent_lt j k n low high = elim (cases_lt j k) [ inl h ↦ h | inr h ↦ absurd (omega (arith, pow_mono h)) ]
 
--- What a reader computes of a code that is whole in hand: `behind` bits stand behind the first one.
+-- what a reader computes of a code that is whole in hand: `behind` bits stand behind the first one
 pub record CodeInHand (count word behind : ℕ) : Type 0 where
   pub positive : 1 ≤ word / 2 ^ (behind - (count - 1 - behind))
   pub small : word / 2 ^ (behind - (count - 1 - behind)) - 1 < 2 ^ 32

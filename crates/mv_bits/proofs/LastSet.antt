@@ -19,7 +19,7 @@ SetKnown-pulled set whole first bytes rest h fits e = record {
       ap (λ b. has_one (byte_bits (drop (suc n) b))) (sym e) ∙ h.known (suc n) ∙ ap (λ k. nat_lt k set) at;
 }
 
--- The fields of a reader, as its loops keep them.
+-- the fields of a reader, as its loops keep them
 pub record Keeps (count word : ℕ) (bytes : List ℕ) (whole set : ℕ) (cursor : Cursor) : Type 0 where
   pub holds : Holds count word bytes whole cursor
   pub set_known : SetKnown set whole bytes
@@ -67,7 +67,7 @@ has_set (suc i) (byte ∷ bytes) small some =
     ∙ ap (λ x. not (nat_eq byte 0) || x) (has_set i bytes (λ k. small (suc k)) some)
     ∙ or_true (not (nat_eq byte 0))
 
--- Only zeros stand from `set` on.
+-- only zeros stand from `set` on
 abbrev pub ZerosFrom : ℕ → List ℕ → Type 0
 ZerosFrom set bytes = (n : ℕ) → set ≤ n → has_one (byte_bits (drop n bytes)) ≡ false
 

@@ -98,7 +98,7 @@ two_joined n high low left middle rest h k e f =
     in
     in_two n left h ∙ ap go e ∙ ap (kept (λ v. high * 2 ^ 32 + v)) f ∙ ap (λ v. Ok (v, rest)) (sym value)
 
--- The fields of a reader that stands at a cursor, as its loops keep them.
+-- the fields of a reader that stands at a cursor, as its loops keep them
 pub record Holds (count word : ℕ) (bytes : List ℕ) (whole : ℕ) (cursor : Cursor) : Type 0 where
   pub narrow : count < 64
   pub in_hand : word < 2 ^ count

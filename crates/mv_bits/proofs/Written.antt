@@ -52,7 +52,7 @@ written_bits-started width bytes count last n value room h k =
     ap (written_bits bytes (count + n)) (started_word width count last n value room h k)
     ∙ written_bits-more bytes count last n value k
 
--- What the loop keeps: the bits behind `before`, of which the first are those at the start.
+-- what the loop keeps: the bits behind `before`, of which the first are those at the start
 pub record Pending (left word : ℕ) (bytes started : List ℕ) (before : ℕ) (bits : List Bool) : Type 0 where
   pub narrow : left < 64
   pub in_hand : word < 2 ^ left

@@ -11,11 +11,11 @@ use std::marker::Model;
 /// A call that answers `NoBits` changes nothing.
 #[derive(Drop)]
 pub struct BitReader<'a> {
-    // the bits in hand, as the number `word` of `count` bits, and the bytes behind them
+    // The bits in hand, as the number `word` of `count` bits, and the bytes behind them.
     word: u64,
     count: u8,
     bytes: &'a [u8],
-    // the number of bytes in all, and of those up to the last that is not 0
+    // The number of bytes in all, and of those up to the last that is not 0.
     whole: usize,
     set: usize,
 }
@@ -249,7 +249,7 @@ impl<'a> BitReader<'a> {
         if self.word == 0 {
             return None;
         }
-        // the bits behind the first one, and the zeros before it
+        // The bits behind the first one, and the zeros before it.
         let behind = self.word.ilog2() as u8;
         let zeros = self.count - 1 - behind;
         if behind < zeros {

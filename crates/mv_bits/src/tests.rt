@@ -14,11 +14,11 @@ static UE: [(&[u8], Result<u32, NoBits>, u64); 8] = [
     (&[0x40], Ok(1), 3),
     (&[0x60], Ok(2), 3),
     (&[0x28], Ok(4), 5),
-    // 31 zeros and 32 ones
+    // 31 zeros and 32 ones.
     (&[0, 0, 0, 1, 0xFF, 0xFF, 0xFF, 0xFE], Ok(4_294_967_294), 63),
-    // 32 zeros and 33 ones
+    // 32 zeros and 33 ones.
     (&[0, 0, 0, 0, 0xFF, 0xFF, 0xFF, 0xFF, 0x80], Err(NoBits), 0),
-    // the bits end among the zeros, and in the bits behind the one
+    // The bits end among the zeros, and in the bits behind the one.
     (&[0, 0], Err(NoBits), 0),
     (&[0, 0x80], Err(NoBits), 0),
 ];

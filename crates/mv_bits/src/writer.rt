@@ -11,7 +11,7 @@ use std::marker::Model;
 #[derive(Drop)]
 pub struct BitWriter {
     bytes: Vec<u8>,
-    // the bits behind the bytes, as the number `word` of `count` bits, which are no whole byte
+    // The bits behind the bytes, as the number `word` of `count` bits, which are no whole byte.
     word: u8,
     count: u8,
 }

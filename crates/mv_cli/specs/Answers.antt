@@ -89,8 +89,8 @@ due_status Accepted = 0
 due_status (Stops stop) = stop_status stop.why
 due_status Exceeds = 7
 
--- The program succeeds only for an input that its command accepts, and then writes what the command says; it refuses only
--- at the first offending unit and rule. The bytes of the input decide which of these comes:
+-- the program succeeds only for an input that its command accepts, and then writes what the command says; it refuses only
+-- at the first offending unit and rule; the bytes of the input decide which of these comes:
 pub record Headline (words : List (List ℕ)) (limit : ℕ) (input : Input) (output faults : Output) (status : ℕ) : Type 0 where
   -- status 0 comes only for an input that is accepted, and the output gained exactly what its command writes of it
   pub succeeds : status ≡ 0 → Answered words limit input output (Ok tt)

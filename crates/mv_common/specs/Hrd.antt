@@ -8,7 +8,7 @@ use Rattle.mv_common.specs.declared.hrd_common.HrdFlags.{HrdFlags}
 use Rattle.mv_common.specs.declared.cpb.Cpb.{Cpb}
 use Rattle.mv_common.specs.declared.hrd.HrdArgs.{HrdArgs}
 
--- The first group, which a header may leave out for a later hrd_parameters.
+-- the first group, which a header may leave out for a later hrd_parameters
 unfoldable pub hrd_common : Table HrdCommon
 hrd_common = shaped
     (λ (nal_hrd_parameters_present_flag, (vcl_hrd_parameters_present_flag, (sub_pic_hrd_params_present_flag, (tick_divisor_minus2, (du_cpb_removal_delay_increment_length_minus1, (sub_pic_cpb_params_in_pic_timing_sei_flag, (dpb_output_delay_du_length_minus1, (bit_rate_scale, (cpb_size_scale, (cpb_size_du_scale, (initial_cpb_removal_delay_length_minus1, (au_cpb_removal_delay_length_minus1, dpb_output_delay_length_minus1)))))))))))). record {
@@ -58,7 +58,7 @@ hrd_common = shaped
           named "au_cpb_removal_delay_length_minus1" (when any (u 5))
           named "dpb_output_delay_length_minus1" (when any (u 5))
 
--- Turn k of sub_layer_hrd_parameters (E.2.3).
+-- turn k of sub_layer_hrd_parameters (E.2.3)
 unfoldable pub cpb : Bool → ℕ → Table Cpb
 cpb sub_pic k = shaped
     (λ (bit_rate_value_minus1, (cpb_size_value_minus1, (cpb_size_du_value_minus1, (bit_rate_du_value_minus1, cbr_flag)))). record {
@@ -95,7 +95,7 @@ pub record HrdSubLayerValue : Type 0 where
   pub nal_sub_layer_hrd : Option (List Cpb)
   pub vcl_sub_layer_hrd : Option (List Cpb)
 
--- The fields of sub-layer i, by the flags in force. fixed_pic_rate_within_cvs_flag is 1 where it is left out.
+-- the fields of sub-layer i, by the flags in force. fixed_pic_rate_within_cvs_flag is 1 where it is left out
 unfoldable pub hrd_sub_layer : HrdFlags → ℕ → Table HrdSubLayerValue
 hrd_sub_layer flags i = shaped
     (λ (fixed_pic_rate_general_flag, (fixed_pic_rate_within_cvs_flag, (elemental_duration_in_tc_minus1, (low_delay_hrd_flag, (cpb_cnt_minus1, (nal_sub_layer_hrd, vcl_sub_layer_hrd)))))). record {
@@ -130,7 +130,7 @@ hrd_sub_layer flags i = shaped
 unfoldable pub hrd_sub_layers : ℕ → HrdFlags → Table (List HrdSubLayerValue)
 hrd_sub_layers subs flags = items 0 (subs + 1) (hrd_sub_layer flags)
 
--- The flags in force: those of the first group where it is coded, and else those in force before.
+-- the flags in force: those of the first group where it is coded, and else those in force before
 abbrev pub in_force : Option HrdCommon → HrdFlags → HrdFlags
 in_force (Some common) before = record {
   nal = is_set common.nal_hrd_parameters_present_flag;
@@ -146,7 +146,7 @@ pub record HrdValue : Type 0 where
   pub common : Option HrdCommon
   pub sub_layers : List HrdSubLayerValue
 
--- hrd_parameters(common, subs), with the flags in force at the hrd_parameters before.
+-- hrd_parameters(common, subs), with the flags in force at the hrd_parameters before
 unfoldable pub hrd_parameters : Bool → ℕ → HrdFlags → Table HrdValue
 hrd_parameters common subs before = shaped
     (λ c. record { common = c.0; sub_layers = c.1 })

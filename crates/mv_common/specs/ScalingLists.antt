@@ -5,7 +5,7 @@ use Rattle.mv_syntax.specs.Words.{◌▸◌, ◌>>◌, is_set}
 use Rattle.mv_syntax.specs.Loops.{items, items_numbered, each}
 use Rattle.mv_common.specs.ScalingListValue.{ScalingListValue}
 
--- How many coefficients are coded for a list of size s (7.3.4, coefNum).
+-- how many coefficients are coded for a list of size s (7.3.4, coefNum)
 abbrev pub num_coefficients : ℕ → ℕ
 num_coefficients s = min 64 (2 ^ (4 + 2 * s))
 
@@ -15,7 +15,7 @@ coefficient k = named "scaling_list_delta_coef" se
 unfoldable pub coefficients : Bool → ℕ → Table (List ℤ)
 coefficients coded s = items 0 (if coded then num_coefficients s else 0) coefficient
 
--- One list of size s, for blocks of 2 ^ (2 + s) by 2 ^ (2 + s) samples.
+-- one list of size s, for blocks of 2 ^ (2 + s) by 2 ^ (2 + s) samples
 unfoldable pub scaling_list : ℕ → Table ScalingListValue
 scaling_list s = shaped
     (λ (scaling_list_pred_mode_flag, (scaling_list_pred_matrix_id_delta, (scaling_list_dc_coef_minus8, scaling_list_delta_coef))). record {
@@ -37,7 +37,7 @@ scaling_list s = shaped
         named "scaling_list_dc_coef_minus8" (when (has_coefficients && nat_lt 1 s) se)
         coefficients has_coefficients s
 
--- The lists of size s are those of matrices 0 to 5, of size 3 those of matrices 0 and 3 (matrixId).
+-- the lists of size s are those of matrices 0 to 5, of size 3 those of matrices 0 and 3 (matrixId)
 abbrev pub matrix_step : ℕ → ℕ
 matrix_step s = if nat_eq s 3 then 3 else 1
 
@@ -47,6 +47,6 @@ matrix_id s turn = matrix_step s * turn
 unfoldable pub lists_of_size : ℕ → Table (List ScalingListValue)
 lists_of_size s = items_numbered (matrix_id s) (6 / matrix_step s) (each (scaling_list s))
 
--- The lists of the sizes 0 to 3.
+-- the lists of the sizes 0 to 3
 unfoldable pub scaling_list_data : Table (List (List ScalingListValue))
 scaling_list_data = items 0 4 lists_of_size

@@ -25,7 +25,7 @@ abbrev pub latency_name : ParameterSet → String
 latency_name Video = "vps_max_latency_increase_plus1"
 latency_name Sequence = "sps_max_latency_increase_plus1"
 
--- The numbers of a sub-layer.
+-- the numbers of a sub-layer
 unfoldable pub sub_layer : ParameterSet → Table SubLayer
 sub_layer set = shaped
     (λ (max_dec_pic_buffering_minus1, (max_num_reorder_pics, max_latency_increase_plus1)). record {
@@ -47,7 +47,7 @@ sub_layer set = shaped
 unfoldable pub sub_layers : ParameterSet → ℕ → ℕ → Table (List SubLayer)
 sub_layers set first subs = items first (subs + 1 - first) (each (sub_layer set))
 
--- The first sub-layer that is coded: 0 where all are, and else the highest, subs, alone.
+-- the first sub-layer that is coded: 0 where all are, and else the highest, subs, alone
 abbrev pub first_coded : ℕ → ℕ → ℕ
 first_coded sub_layer_ordering_info_present_flag subs = if is_set sub_layer_ordering_info_present_flag then 0 else subs
 
@@ -55,7 +55,7 @@ pub record SubLayerOrderingValue : Type 0 where
   pub sub_layer_ordering_info_present_flag : ℕ
   pub sub_layers : List SubLayer
 
--- Of a set whose highest sub-layer is subs.
+-- of a set whose highest sub-layer is subs
 unfoldable pub sub_layer_ordering : ParameterSet → ℕ → Table SubLayerOrderingValue
 sub_layer_ordering set subs = shaped
     (λ (sub_layer_ordering_info_present_flag, sub_layers). record {

@@ -161,7 +161,7 @@ pub record VuiTimingValue : Type 0 where
   pub vui_hrd_parameters_present_flag : Option ℕ
   pub hrd_parameters : Option HrdValue
 
--- No hrd_parameters stands before the one of a VUI, whose first group is always coded.
+-- no hrd_parameters stands before the one of a VUI, whose first group is always coded
 abbrev pub no_flags : HrdFlags
 no_flags = record { nal = false; vcl = false; sub_pic = false }
 

@@ -20,8 +20,8 @@ use Rattle.mv_pictures.specs.UnitRules.{fails, is_cut}
 abbrev pub header_in : SliceContextValue → UnitHead → List ℕ → Result SliceHead Fault
 header_in ctx h unit = elim (read (slice_header ctx h.kind) (byte_bits (payload unit))) [ Ok x ↦ Ok x.0 | Err fault ↦ Err fault ]
 
--- why it isn't told: no header reads and no other rule cuts, which is SliceSyntax, or cross_layer_bla_flag is 1. Of want of
--- memory nothing is said.
+-- why it isn't told: no header reads and no other rule cuts, which is SliceSyntax, or cross_layer_bla_flag is 1; of want of
+-- memory nothing is said
 abbrev pub IsWhy : Result SliceHead Fault → ReadFault → Type 0
 IsWhy there (Refused rule) =
     ((rule ≡ Rule.SliceSyntax) × ((fails there || is_cut Rule.SliceSyntax there) ≡ true))

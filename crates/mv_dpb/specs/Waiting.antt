@@ -24,7 +24,7 @@ waiting_code {P} code =
 abbrev pub told : {P : Type 0} → WaitingValue P → List Waits
 told w = map (λ s. s.told) w.pictures
 
--- the pictures with another in its place in output order. Where its access unit has begun to leave, this is noted at it
+-- the pictures with another in its place in output order; where its access unit has begun to leave, this is noted at it
 abbrev pub with_picture : {P : Type 0} → Shown → ℕ → P → WaitingValue P → WaitingValue P
 with_picture shown au picture w =
     record {

@@ -128,7 +128,7 @@ type OrderRow = (u8, &'static [(u64, i32, bool)]);
 static ORDERS: &[OrderRow] = &[
     (1, &[(0, 8, true), (1, 4, true), (2, 2, false)]),
     (1, &[(0, 8, true), (1, 2, true)]),
-    // access units are counted, and not pictures
+    // Access units are counted, and not pictures.
     (
         1,
         &[
@@ -140,7 +140,7 @@ static ORDERS: &[OrderRow] = &[
             (2, 2, false),
         ],
     ),
-    // what was refused isn't counted
+    // What was refused isn't counted.
     (
         1,
         &[
@@ -152,7 +152,7 @@ static ORDERS: &[OrderRow] = &[
             (5, 7, true),
         ],
     ),
-    // a count that is equal is none that is greater
+    // A count that is equal is none that is greater.
     (
         0,
         &[
@@ -171,7 +171,7 @@ static ORDERS: &[OrderRow] = &[
             (2, i32::MAX - 1, false),
         ],
     ),
-    // greatest counts stay, whatever came behind them
+    // Greatest counts stay, whatever came behind them.
     (
         2,
         &[
@@ -279,7 +279,7 @@ static WAITS: &[WaitRow] = &[
         ],
         &[],
     ),
-    // layers rise, in whichever order they came
+    // Layers rise, in whichever order they came.
     (
         1,
         2,
@@ -290,7 +290,7 @@ static WAITS: &[WaitRow] = &[
         ],
         &[801, 802],
     ),
-    // access units wait, and not pictures
+    // Access units wait, and not pictures.
     (
         2,
         2,
@@ -302,7 +302,7 @@ static WAITS: &[WaitRow] = &[
         ],
         &[400, 401, 800, 801],
     ),
-    // of equal counts the access unit that came first leaves first
+    // Of equal counts the access unit that came first leaves first.
     (
         1,
         1,

@@ -34,7 +34,7 @@ pub record Runs {V O F : Type 0} (f : Format) (m : Meaning V O F) (start new : V
   pub accepted : event f (m.judge start) taken ≡ None
   pub closed : m.closed start new first out (f.whole true taken)
 
--- Stopped: the bytes taken show the stop, with no read after that, and the units before it were written
+-- stopped: the bytes taken show the stop, with no read after that, and the units before it were written
 pub record Halts {V O F : Type 0} (f : Format) (m : Meaning V O F) (start : V) (first out : O) (limit : ℕ) (input : Input) (stop : Stop) : Type 0 where
   pub taken : List ℕ
   pub ended : Bool
@@ -45,7 +45,7 @@ pub record Halts {V O F : Type 0} (f : Format) (m : Meaning V O F) (start : V) (
   pub units : stop.unit ≤ length (f.whole ended taken)
   pub wrote : m.wrote start first out (take stop.unit (f.whole ended taken))
 
--- Read: the source's count of faults rose, the bytes taken show nothing, and the units taken whole were written
+-- read: the source's count of faults rose, the bytes taken show nothing, and the units taken whole were written
 pub record ReadFails {V O F : Type 0} (f : Format) (m : Meaning V O F) (start : V) (first out : O) (limit : ℕ) (input : Input) : Type 0 where
   pub taken : List ℕ
   pub took : Took input taken false
@@ -64,7 +64,7 @@ pub record Exceeded {V O F : Type 0} (f : Format) (m : Meaning V O F) (start : V
   pub quiet : seen f (m.judge start) false taken ≡ None
   pub wrote : m.wrote start first out (f.whole false taken)
 
--- Memory: it has no cause that a contract knows; some of the units taken whole were written, all of them accepted
+-- memory: it has no cause that a contract knows; some of the units taken whole were written, all of them accepted
 pub record Wants {V O F : Type 0} (f : Format) (m : Meaning V O F) (start : V) (first out : O) (limit : ℕ) (input : Input) : Type 0 where
   pub taken : List ℕ
   pub ended : Bool
@@ -75,7 +75,7 @@ pub record Wants {V O F : Type 0} (f : Format) (m : Meaning V O F) (start : V) (
   pub accepted : judged (m.judge start) units ≡ None
   pub wrote : m.wrote start first out units
 
--- Fault: the visitor couldn't go on, at a unit that was taken whole, or at the end behind all of them
+-- fault: the visitor couldn't go on, at a unit that was taken whole, or at the end behind all of them
 pub record Fails {V O F : Type 0} (f : Format) (m : Meaning V O F) (start : V) (first out : O) (limit : ℕ) (input : Input) (fault : F) : Type 0 where
   pub taken : List ℕ
   pub ended : Bool

@@ -42,7 +42,7 @@ pub record Accepts {T : Type 0} (f : Format) (task : Task) (total : List NalUnit
   pub writes : Appends output.old.taken output.new.taken (task.text (f.whole true taken))
   pub answers : answer ≡ total (f.whole true taken)
 
--- Refused: the bytes taken decide that the string is refused, with no read after that, and the sink gained the text
+-- refused: the bytes taken decide that the string is refused, with no read after that, and the sink gained the text
 -- of the units before the refused one
 pub record Refuses (f : Format) (task : Task) (limit : ℕ) (input : Input) (output : Output) (refusal : Refusal) : Type 0 where
   pub taken : List ℕ
@@ -53,7 +53,7 @@ pub record Refuses (f : Format) (task : Task) (limit : ℕ) (input : Input) (out
   pub prompt : Prompt f task.judge taken ended
   pub writes : Appends output.old.taken output.new.taken (task.text (take refusal.unit (f.whole true taken)))
 
--- Read: the source's count of faults rose, the bytes taken show nothing, and the sink gained the text of the units
+-- read: the source's count of faults rose, the bytes taken show nothing, and the sink gained the text of the units
 -- that were taken whole
 pub record ReadFails (f : Format) (task : Task) (limit : ℕ) (input : Input) (output : Output) : Type 0 where
   pub taken : List ℕ
@@ -63,7 +63,7 @@ pub record ReadFails (f : Format) (task : Task) (limit : ℕ) (input : Input) (o
   pub quiet : ShowNothing f task.judge taken
   pub writes : Appends output.old.taken output.new.taken (task.text (f.whole false taken))
 
--- Write: the sink's count of faults rose, and it gained the first bytes of the text of some units, and not all of
+-- write: the sink's count of faults rose, and it gained the first bytes of the text of some units, and not all of
 -- them; these are the first of those that were taken whole, and all were accepted
 pub record WriteFails (f : Format) (task : Task) (limit : ℕ) (input : Input) (output : Output) : Type 0 where
   pub taken : List ℕ
@@ -86,7 +86,7 @@ pub record TooLongs (f : Format) (task : Task) (limit : ℕ) (input : Input) (ou
   pub quiet : ShowNothing f task.judge taken
   pub writes : Appends output.old.taken output.new.taken (task.text (f.whole false taken))
 
--- Memory: it has no cause that a contract knows; the sink gained the text of some units, the first of those that were
+-- memory: it has no cause that a contract knows; the sink gained the text of some units, the first of those that were
 -- taken whole, all of which were accepted
 pub record MemoryEnds (f : Format) (task : Task) (limit : ℕ) (input : Input) (output : Output) : Type 0 where
   pub taken : List ℕ

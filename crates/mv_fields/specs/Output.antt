@@ -9,22 +9,22 @@ abbrev pub output_of : To → Output
 output_of (Bits writer) = bits writer
 output_of (Lines shown) = lines shown.text.items shown.around.items
 
--- It holds bits.
+-- it holds bits
 abbrev pub IsBits : Output → Type 0
 IsBits (bits b) = Unit {0}
 IsBits (lines text around) = ⊥
 
--- Where it holds bits, they are whole bytes.
+-- where it holds bits, they are whole bytes
 abbrev pub IsWhole : Output → Type 0
 IsWhole (bits b) = length b % 8 ≡ 0
 IsWhole (lines text around) = Unit {0}
 
--- It holds lines, and no loop is open.
+-- it holds lines, and no loop is open
 abbrev pub IsText : Output → Type 0
 IsText (bits b) = ⊥
 IsText (lines text around) = around ≡ []
 
--- The bits, or the text, that it holds.
+-- the bits, or the text, that it holds
 abbrev pub bits_in : Output → List Bool
 bits_in (bits b) = b
 bits_in (lines text around) = []
@@ -33,12 +33,12 @@ abbrev pub text_in : Output → List ℕ
 text_in (bits b) = []
 text_in (lines text around) = text
 
--- Other text behind the lines.
+-- other text behind the lines
 abbrev pub with_text : List ℕ → Output → Output
 with_text more (bits b) = bits b
 with_text more (lines text around) = lines (text ++ more) around
 
--- Bits equal to x up to the end of the byte. No line shows them.
+-- bits equal to x up to the end of the byte; no line shows them
 abbrev pub aligned : Bool → Output → Output
 aligned x (bits b) = bits (b ++ align_bits x (length b))
 aligned x (lines text around) = lines text around

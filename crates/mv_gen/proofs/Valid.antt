@@ -34,7 +34,7 @@ fits zero low = base_fits
 fits (suc zero) low = second_fits
 fits (suc (suc n)) low = absurd (omega arith)
 
--- A header is valid, and its bytes have its bits.
+-- a header is valid, and its bytes have its bits
 abbrev IsValid : ℕ → ℕ → Type 0
 IsValid layer lsb = Valid (slice_header (context layer) (head_of layer lsb).kind) (slice_head layer lsb)
 

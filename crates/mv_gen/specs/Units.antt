@@ -33,8 +33,8 @@ access_unit number k = segment number (2 * k) 0 (k % 8) ∷ segment number (2 * 
 unfoldable pub gen_units : ℕ → ℕ → List (List ℕ)
 gen_units number count = parameter_sets ++ flat_map (access_unit number) (range_with_len 0 count)
 
--- What a call answers that gives the next of the units that are left: None where none is left. Of want of memory nothing is said
--- but that it changes nothing.
+-- what a call answers that gives the next of the units that are left: None where none is left; of want of memory nothing is said
+-- but that it changes nothing
 abbrev pub Gives : List (List ℕ) → List (List ℕ) → Result (Option (Vec ℕ Global)) AllocError → Type 0
 Gives left left_behind (Ok (Some unit)) = left ≡ unit.items ∷ left_behind
 Gives left left_behind (Ok None) = (left ≡ []) × (left_behind ≡ [])

@@ -22,10 +22,10 @@ IsByRule (Objection.NoSuchSet asked count) = ⊥
 abbrev pub end_stop : Format → Judge → List ℕ → Option Stop
 end_stop f j s = option_map (stop_at (length (f.whole true s)) (length s)) (j.ending (f.whole true s))
 
--- what the bytes taken show, where the end was read or not. Where the form refuses them at a unit, that refusal,
--- or the objection to a unit before it. Where it doesn't, the objection to the first unit taken whole that the
--- judge objects to, and where the end was read and there is none, that to the end. By law this is, where the end
--- wasn't read, what every byte string that begins with these bytes is stopped for.
+-- what the bytes taken show, where the end was read or not; where the form refuses them at a unit, that refusal,
+-- or the objection to a unit before it; where it doesn't, the objection to the first unit taken whole that the
+-- judge objects to, and where the end was read and there is none, that to the end; by law this is, where the end
+-- wasn't read, what every byte string that begins with these bytes is stopped for
 abbrev pub seen : Format → Judge → Bool → List ℕ → Option Stop
 seen f j ended s = elim (f.shown ended s) [
   | Some r ↦ option_or (judged j (take r.unit (f.whole ended s))) (Some (refused_at r))

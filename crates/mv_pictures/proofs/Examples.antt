@@ -347,7 +347,7 @@ pub record Examples : Type 0 where
   pub inter_layer : InterLayer
   pub segments : Segments
 
--- The proof is one computation, for which all definitions have to be opened.
+-- the proof is one computation, for which all definitions have to be opened
 pub examples_hold : Examples
 unfolding judging_facts.facts_behind judging_judge.judged_behind syntax_bits.u_bits syntax_bits.take_bits syntax_bits.halvings
     syntax_bits.ue_zeros syntax_bits.ue_bits syntax_bits.take_ue_from syntax_bits.take_ue syntax_bits.se_value

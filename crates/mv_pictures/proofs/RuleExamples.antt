@@ -105,64 +105,64 @@ use Rattle.mv_pictures.specs.Verdict as pictures_verdict
 -- ---- Heads and video parameter sets
 
 pub record OfVps : Type 0 where
-  -- The head has forbidden_zero_bit 1 or nuh_temporal_id_plus1 0, or the type is 16 to 23 and TemporalId is above 0.
+  -- the head has forbidden_zero_bit 1 or nuh_temporal_id_plus1 0, or the type is 16 to 23 and TemporalId is above 0
   pub head : verdict (of_head ∷ []) 0
       ≡ stopped 0 4 Rule.Head
-  -- The payload isn't a VPS.
+  -- the payload isn't a VPS
   pub vps_syntax : verdict (of_vps_syntax ∷ []) 0
       ≡ stopped 0 4 Rule.VpsSyntax
-  -- vps_base_layer_internal_flag or vps_base_layer_available_flag is 0.
+  -- vps_base_layer_internal_flag or vps_base_layer_available_flag is 0
   pub external_base : verdict (of_external_base ∷ []) 0
       ≡ stopped 0 4 Rule.ExternalBase
-  -- splitting_flag is 1.
+  -- splitting_flag is 1
   pub splitting : verdict (of_splitting ∷ []) 0
       ≡ stopped 0 4 Rule.Splitting
-  -- scalability_mask_flag 0 is 1.
+  -- scalability_mask_flag 0 is 1
   pub depth : verdict (of_depth ∷ []) 0
       ≡ stopped 0 4 Rule.Depth
-  -- scalability_mask_flag 2 is 1.
+  -- scalability_mask_flag 2 is 1
   pub spatial : verdict (of_spatial ∷ []) 0
       ≡ stopped 0 4 Rule.Spatial
-  -- scalability_mask_flag 3 is 1.
+  -- scalability_mask_flag 3 is 1
   pub auxiliary : verdict (of_auxiliary ∷ []) 0
       ≡ stopped 0 4 Rule.Auxiliary
-  -- A scalability_mask_flag from 4 to 15 is 1.
+  -- a scalability_mask_flag from 4 to 15 is 1
   pub reserved_dimension : verdict (of_reserved_dimension ∷ []) 0
       ≡ stopped 0 4 Rule.ReservedDimension
-  -- There is more than one layer, and scalability_mask_flag 1 is 0.
+  -- there is more than one layer, and scalability_mask_flag 1 is 0
   pub no_view_dimension : verdict (of_no_view_dimension ∷ []) 0
       ≡ stopped 0 4 Rule.NoViewDimension
-  -- A layer has the view order index of an earlier one.
+  -- a layer has the view order index of an earlier one
   pub same_view : verdict (of_same_view ∷ []) 0
       ≡ stopped 0 4 Rule.SameView
-  -- num_add_layer_sets is above 0.
+  -- num_add_layer_sets is above 0
   pub added_layer_sets : verdict (of_added_layer_sets ∷ []) 0
       ≡ stopped 0 4 Rule.AddedLayerSets
-  -- An alt_output_layer_flag is 1.
+  -- an alt_output_layer_flag is 1
   pub alt_output : verdict (of_alt_output ∷ []) 0
       ≡ stopped 0 4 Rule.AltOutput
-  -- A layer set lacks layer 0.
+  -- a layer set lacks layer 0
   pub layer_set_base : verdict (of_layer_set_base ∷ []) 0
       ≡ stopped 0 4 Rule.LayerSetBase
-  -- A layer set has a layer and lacks one of its direct reference layers.
+  -- a layer set has a layer and lacks one of its direct reference layers
   pub layer_set_closure : verdict (of_layer_set_closure ∷ []) 0
       ≡ stopped 0 4 Rule.LayerSetClosure
-  -- A layer set has a layer that the VPS hasn't.
+  -- a layer set has a layer that the VPS hasn't
   pub layer_set_unknown : verdict (of_layer_set_unknown ∷ []) 0
       ≡ stopped 0 4 Rule.LayerSetUnknown
-  -- default_output_layer_idc is 3.
+  -- default_output_layer_idc is 3
   pub reserved_output : verdict (of_reserved_output ∷ []) 0
       ≡ stopped 0 4 Rule.ReservedOutput
-  -- A direct_dependency_type is above 2.
+  -- a direct_dependency_type is above 2
   pub dependency_type : verdict (of_dependency_type ∷ []) 0
       ≡ stopped 0 4 Rule.DependencyType
-  -- A field of the VPS is past its limit, or the payload has more than 65,536 bytes.
+  -- a field of the VPS is past its limit, or the payload has more than 65,536 bytes
   pub vps_limit : verdict (of_vps_limit ∷ []) 0
       ≡ stopped 0 4 Rule.VpsLimit
-  -- A VPS of layer 0 has TemporalId above 0.
+  -- a VPS of layer 0 has TemporalId above 0
   pub vps_tid : verdict (of_vps_tid ∷ []) 0
       ≡ stopped 0 4 Rule.VpsTid
-  -- No VPS was accepted before this unit, which needs one, or an SPS names another VPS.
+  -- no VPS was accepted before this unit, which needs one, or an SPS names another VPS
   pub no_vps : verdict (plain_sps ∷ []) 0
       ≡ stopped 0 4 Rule.NoVps
   -- an SPS names another VPS
@@ -172,120 +172,120 @@ pub record OfVps : Type 0 where
 -- ---- Sequence and picture parameter sets
 
 pub record OfSets : Type 0 where
-  -- The payload isn't an SPS.
+  -- the payload isn't an SPS
   pub sps_syntax : verdict (one_layer_vps ∷ of_sps_syntax ∷ []) 0
       ≡ stopped 1 32 Rule.SpsSyntax
-  -- sps_range_extension_flag is 1.
+  -- sps_range_extension_flag is 1
   pub sps_range : verdict (one_layer_vps ∷ of_sps_range ∷ []) 0
       ≡ stopped 1 32 Rule.SpsRange
-  -- sps_3d_extension_flag is 1.
+  -- sps_3d_extension_flag is 1
   pub sps_3d : verdict (one_layer_vps ∷ of_sps_3d ∷ []) 0
       ≡ stopped 1 32 Rule.Sps3d
-  -- sps_scc_extension_flag is 1.
+  -- sps_scc_extension_flag is 1
   pub sps_scc : verdict (one_layer_vps ∷ of_sps_scc ∷ []) 0
       ≡ stopped 1 32 Rule.SpsScc
-  -- separate_colour_plane_flag is 1 in an SPS.
+  -- separate_colour_plane_flag is 1 in an SPS
   pub colour_planes : verdict (one_layer_vps ∷ of_colour_planes ∷ []) 0
       ≡ stopped 1 32 Rule.ColourPlanes
-  -- An SPS has TemporalId above 0.
+  -- an SPS has TemporalId above 0
   pub sps_tid : verdict (one_layer_vps ∷ of_sps_tid ∷ []) 0
       ≡ stopped 1 32 Rule.SpsTid
-  -- A field of the SPS is past its limit, or the payload has more than 65,536 bytes.
+  -- a field of the SPS is past its limit, or the payload has more than 65,536 bytes
   pub sps_limit : verdict (one_layer_vps ∷ of_sps_limit ∷ []) 0
       ≡ stopped 1 32 Rule.SpsLimit
-  -- The payload isn't a PPS.
+  -- the payload isn't a PPS
   pub pps_syntax : verdict (one_layer_vps ∷ plain_sps ∷ of_pps_syntax ∷ []) 0
       ≡ stopped 2 62 Rule.PpsSyntax
-  -- pps_range_extension_flag is 1.
+  -- pps_range_extension_flag is 1
   pub pps_range : verdict (one_layer_vps ∷ plain_sps ∷ of_pps_range ∷ []) 0
       ≡ stopped 2 62 Rule.PpsRange
-  -- pps_3d_extension_flag is 1.
+  -- pps_3d_extension_flag is 1
   pub pps_3d : verdict (one_layer_vps ∷ plain_sps ∷ of_pps_3d ∷ []) 0
       ≡ stopped 2 62 Rule.Pps3d
-  -- pps_scc_extension_flag is 1.
+  -- pps_scc_extension_flag is 1
   pub pps_scc : verdict (one_layer_vps ∷ plain_sps ∷ of_pps_scc ∷ []) 0
       ≡ stopped 2 62 Rule.PpsScc
-  -- poc_reset_info_present_flag is 1.
+  -- poc_reset_info_present_flag is 1
   pub poc_reset : verdict (one_layer_vps ∷ plain_sps ∷ of_poc_reset ∷ []) 0
       ≡ stopped 2 62 Rule.PocReset
-  -- num_ref_loc_offsets is above 0.
+  -- num_ref_loc_offsets is above 0
   pub location_offsets : verdict (one_layer_vps ∷ plain_sps ∷ of_location_offsets ∷ []) 0
       ≡ stopped 2 62 Rule.LocationOffsets
-  -- colour_mapping_enabled_flag is 1.
+  -- colour_mapping_enabled_flag is 1
   pub colour_mapping : verdict (one_layer_vps ∷ plain_sps ∷ of_colour_mapping ∷ []) 0
       ≡ stopped 2 62 Rule.ColourMapping
-  -- A field of the PPS is past its limit, or the payload has more than 65,536 bytes.
+  -- a field of the PPS is past its limit, or the payload has more than 65,536 bytes
   pub pps_limit : verdict (one_layer_vps ∷ plain_sps ∷ of_pps_limit ∷ []) 0
       ≡ stopped 2 62 Rule.PpsLimit
 
 -- ---- Slice segments and access units
 
 pub record OfSlices : Type 0 where
-  -- No PPS with the slice's id is visible to its layer.
+  -- no PPS with the slice's id is visible to its layer
   pub missing_pps : verdict (one_layer_vps ∷ plain_sps ∷ base_pps ∷ of_missing_pps ∷ []) 0
       ≡ stopped 3 72 Rule.MissingPps
-  -- No SPS with the id that the PPS names is visible to the layer, or its format index isn't in the VPS.
+  -- no SPS with the id that the PPS names is visible to the layer, or its format index isn't in the VPS
   pub missing_sps : verdict (one_layer_vps ∷ plain_sps ∷ before_missing_sps ∷ base_idr ∷ []) 0
       ≡ stopped 3 73 Rule.MissingSps
-  -- The payload doesn't begin with a slice header, or a field of it is past its limit.
+  -- the payload doesn't begin with a slice header, or a field of it is past its limit
   pub slice_syntax : verdict (one_layer_vps ∷ plain_sps ∷ base_pps ∷ of_slice_syntax ∷ []) 0
       ≡ stopped 3 72 Rule.SliceSyntax
-  -- cross_layer_bla_flag is 1.
+  -- cross_layer_bla_flag is 1
   pub cross_layer_bla : verdict (one_layer_vps ∷ plain_sps ∷ before_cross_layer_bla ∷ of_cross_layer_bla ∷ []) 0
       ≡ stopped 3 72 Rule.CrossLayerBla
-  -- The first slice unit of an access unit is of a layer above 0.
+  -- the first slice unit of an access unit is of a layer above 0
   pub no_base : verdict (two_views_plain_vps ∷ plain_sps ∷ base_pps ∷ base_idr ∷ middle_p ∷ base_pps ∷ middle_p ∷ []) 0
       ≡ stopped 6 114 Rule.NoBase
-  -- A first segment's layer isn't above the layers of the access unit's earlier pictures.
+  -- a first segment's layer isn't above the layers of the access unit's earlier pictures
   pub layer_order : verdict (two_views_plain_vps ∷ plain_sps ∷ base_pps ∷ base_idr ∷ middle_p ∷ middle_p ∷ []) 0
       ≡ stopped 5 104 Rule.LayerOrder
-  -- A later segment has no picture of its layer as the access unit's last picture.
+  -- a later segment has no picture of its layer as the access unit's last picture
   pub orphan_slice : verdict (two_views_plain_vps ∷ plain_sps ∷ base_pps ∷ base_idr ∷ middle_p ∷ of_orphan_slice ∷ []) 0
       ≡ stopped 5 104 Rule.OrphanSlice
-  -- A later segment differs from its picture's first in a field that all segments of a picture share.
+  -- a later segment differs from its picture's first in a field that all segments of a picture share
   pub slice_differs : verdict (one_layer_vps ∷ plain_sps ∷ base_pps ∷ base_idr ∷ alone_1 ∷ of_slice_differs ∷ []) 0
       ≡ stopped 5 89 Rule.SliceDiffers
-  -- A later segment's address is 0, isn't in the picture, or doesn't follow the preceding segment's.
+  -- a later segment's address is 0, isn't in the picture, or doesn't follow the preceding segment's
   pub address_order : verdict (one_layer_vps ∷ plain_sps ∷ base_pps ∷ base_idr ∷ of_address_order ∷ []) 0
       ≡ stopped 4 80 Rule.AddressOrder
-  -- A first segment's TemporalId isn't that of the access unit's first slice unit.
+  -- a first segment's TemporalId isn't that of the access unit's first slice unit
   pub tid_differs : verdict (two_layers_vps ∷ plain_sps ∷ base_pps ∷ base_idr ∷ of_tid_differs ∷ []) 0
       ≡ stopped 4 95 Rule.TidDiffers
 
 -- ---- Pictures
 
 pub record OfPictures : Type 0 where
-  -- A base picture where a sequence has to start isn't an IRAP picture.
+  -- a base picture where a sequence has to start isn't an IRAP picture
   pub no_irap : verdict (one_layer_vps ∷ plain_sps ∷ base_pps ∷ of_no_irap ∷ []) 0
       ≡ stopped 3 72 Rule.NoIrap
-  -- A decoded picture that isn't a start has another SPS than its layer's preceding decoded picture.
+  -- a decoded picture that isn't a start has another SPS than its layer's preceding decoded picture
   pub sps_changed : verdict (one_layer_vps ∷ plain_sps ∷ base_pps ∷ base_idr ∷ wide_sps ∷ base_pps ∷ alone_1 ∷ []) 0
       ≡ stopped 6 121 Rule.SpsChanged
-  -- A decoded picture and one of its access unit that it refers to differ in size, chroma format or bit depth.
+  -- a decoded picture and one of its access unit that it refers to differ in size, chroma format or bit depth
   pub format_differs : verdict (two_views_plain_vps ∷ plain_sps ∷ base_pps ∷ before_format_differs ∷ upper_pps ∷ base_idr ∷ of_format_differs ∷ []) 0
       ≡ stopped 6 137 Rule.FormatDiffers
-  -- A picture above layer 0 hasn't the base picture's order count, or a start's coded bits of it differ.
+  -- a picture above layer 0 hasn't the base picture's order count, or a start's coded bits of it differ
   pub poc_mismatch : verdict (two_views_plain_vps ∷ plain_sps ∷ base_pps ∷ base_idr ∷ of_poc_mismatch ∷ []) 0
       ≡ stopped 4 95 Rule.PocMismatch
-  -- The reference picture set of an IRAP picture has an entry that the picture uses.
+  -- the reference picture set of an IRAP picture has an entry that the picture uses
   pub irap_refers : verdict (one_layer_vps ∷ plain_sps ∷ base_pps ∷ base_idr ∷ of_irap_refers ∷ []) 0
       ≡ stopped 4 80 Rule.IrapRefers
-  -- A reference picture set has more than 15 entries.
+  -- a reference picture set has more than 15 entries
   pub too_many_refs : verdict (one_layer_vps ∷ plain_sps ∷ base_pps ∷ base_idr ∷ of_too_many_refs ∷ []) 0
       ≡ stopped 4 80 Rule.TooManyRefs
-  -- An entry that the current picture uses has no matching picture.
+  -- an entry that the current picture uses has no matching picture
   pub missing_ref : verdict (one_layer_vps ∷ plain_sps ∷ base_pps ∷ base_idr ∷ of_missing_ref ∷ []) 0
       ≡ stopped 4 80 Rule.MissingRef
-  -- An active reference layer has no decoded picture in the access unit.
+  -- an active reference layer has no decoded picture in the access unit
   pub missing_inter_layer : verdict (three_linked_vps ∷ plain_sps ∷ base_pps ∷ base_idr ∷ middle_p ∷ top_p ∷ alone_1 ∷ of_missing_inter_layer ∷ []) 0
       ≡ stopped 7 124 Rule.MissingInterLayer
-  -- A list_entry isn't below NumPicTotalCurr.
+  -- a list_entry isn't below NumPicTotalCurr
   pub list_entry : verdict (one_layer_vps ∷ plain_sps ∷ modify_pps ∷ base_idr ∷ modified_1 ∷ before_list_entry ∷ of_list_entry ∷ []) 0
       ≡ stopped 6 100 Rule.ListEntry
-  -- A P or B segment has NumPicTotalCurr 0.
+  -- a P or B segment has NumPicTotalCurr 0
   pub no_refs : verdict (one_layer_vps ∷ plain_sps ∷ base_pps ∷ base_idr ∷ of_no_refs ∷ []) 0
       ≡ stopped 4 80 Rule.NoRefs
-  -- A coded collocated_ref_idx isn't below the active entries of its list.
+  -- a coded collocated_ref_idx isn't below the active entries of its list
   pub collocated : verdict (one_layer_vps ∷ before_collocated ∷ base_pps ∷ base_idr ∷ of_collocated ∷ []) 0
       ≡ stopped 4 80 Rule.Collocated
 
@@ -316,7 +316,7 @@ pub record RuleExamples : Type 0 where
   pub neighbours : Neighbours
   pub range : Range
 
--- The proof is one computation, for which all definitions have to be opened.
+-- the proof is one computation, for which all definitions have to be opened
 pub rule_examples_hold : RuleExamples
 unfolding judging_facts.facts_behind judging_judge.judged_behind syntax_bits.u_bits syntax_bits.take_bits syntax_bits.halvings
     syntax_bits.ue_zeros syntax_bits.ue_bits syntax_bits.take_ue_from syntax_bits.take_ue syntax_bits.se_value

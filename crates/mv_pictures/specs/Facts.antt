@@ -30,7 +30,7 @@ pub record Sets : Type 0 where
   pub format : Option Format
 
 -- a unit; of a sequence or a picture parameter set what it carries; of a slice segment its sets, what its header takes
--- from them, and its header or the fault that stands there. What a unit hasn't is None.
+-- from them, and its header or the fault that stands there; what a unit hasn't is None
 pub record Fact : Type 0 where
   pub placed : Placed
   pub sps_unit : Option (Carried SpsValue)

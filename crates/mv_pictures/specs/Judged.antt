@@ -8,11 +8,11 @@ use Rattle.mv_pictures.specs.Items as items
 use Rattle.mv_pictures.specs.Facts.{Fact}
 use Rattle.mv_pictures.specs.Terms.{Tag, References, Lists}
 
--- A unit's fact; whether it is a picture that starts a coded video sequence, a start of its layer, a reset of its layer,
--- a decoded picture; its PicOrderCntVal, if it has one. Of a decoded picture the access units of the pictures that its
--- entries match, and of those that its long-term entries match; its references, as parts and as terms. Of a slice
--- segment its lists. Of a picture the number of its sequence, and the video and the sequence parameter set of the base
--- picture that starts it.
+-- a unit's fact; whether it is a picture that starts a coded video sequence, a start of its layer, a reset of its layer,
+-- a decoded picture; its PicOrderCntVal, if it has one; of a decoded picture the access units of the pictures that its
+-- entries match, and of those that its long-term entries match; its references, as parts and as terms; of a slice
+-- segment its lists; of a picture the number of its sequence, and the video and the sequence parameter set of the base
+-- picture that starts it
 pub record Judged : Type 0 where
   pub fact : Fact
   pub seq : Bool

@@ -100,7 +100,7 @@ list_entry l p =
 unfoldable pub no_refs : Look → Fact → Bool
 no_refs l p = is_of_decoded l p && predicts p && nat_eq (num_pic_total_curr p) 0
 
--- Collocated: a coded collocated_ref_idx isn't below the active entries of its list
+-- collocated: a coded collocated_ref_idx isn't below the active entries of its list
 abbrev pub collocated_entries : Fact → SliceLists → ℕ
 collocated_entries p lists = if is_set (lists.collocated_from_l0_flag otherwise 1) then active_l0 p else active_l1 p
 

@@ -74,7 +74,7 @@ picture_cases l p =
     ∷ case Rule.Collocated (collocated l p)
     ∷ []
 
--- Reorder: the picture is late for a set of its sequence
+-- reorder: the picture is late for a set of its sequence
 unfoldable pub output_cases : List Judged → Judged → List Case
 output_cases past d = map (λ o. case (Rule.Reorder o) (is_late o past d)) (range_with_len 0 (length (sets_at d.seq_vps)))
 

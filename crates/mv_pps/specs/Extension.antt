@@ -6,8 +6,8 @@ use Rattle.mv_rules.specs.declared.rule.Rule.TheVariants.{ColourMapping, Locatio
 use Rattle.mv_pps.specs.declared.multilayer.PpsMultilayer.{PpsMultilayer}
 use Rattle.mv_pps.specs.declared.extension.PpsExtension.{PpsExtension}
 
--- pps_multilayer_extension (F.7.3.2.3.4). Resetting picture order counts (44), location offsets (45) and colour mapping (46)
--- are refused (this project's profile).
+-- pps_multilayer_extension (F.7.3.2.3.4); resetting picture order counts (44), location offsets (45) and colour mapping (46)
+-- are refused (this project's profile)
 unfoldable pub multilayer_extension : Table PpsMultilayer
 multilayer_extension = shaped
     (λ (poc_reset_info_present_flag, (pps_infer_scaling_list_flag, (pps_scaling_list_ref_layer_id, (num_ref_loc_offsets, colour_mapping_enabled_flag)))). record {
@@ -31,8 +31,8 @@ multilayer_extension = shaped
       named "num_ref_loc_offsets" (ue ! LocationOffsets ∶ over 0)
       named "colour_mapping_enabled_flag" (u 1 ! ColourMapping ∶ is_set)
 
--- The extension flags, coded where pps_extension_present_flag is 1, and the multilayer extension. The range (41), 3D (42) and
--- screen content coding (43) extensions are refused (this project's profile).
+-- the extension flags, coded where pps_extension_present_flag is 1, and the multilayer extension; the range (41), 3D (42) and
+-- screen content coding (43) extensions are refused (this project's profile)
 unfoldable pub extension : Table PpsExtension
 extension = shaped
     (λ (pps_range_extension_flag, (pps_multilayer_extension_flag, (pps_3d_extension_flag, (pps_scc_extension_flag, (pps_extension_4bits, multilayer))))). record {

@@ -18,7 +18,7 @@ use Rattle.mv_pps.specs.Tiles.{PpsTilesValue, tiles}
 use Rattle.mv_pps.specs.Deblocking.{deblocking}
 use Rattle.mv_pps.specs.Extension.{extension}
 
--- The fields in coded order, in parts; a part that is not coded is None.
+-- the fields in coded order, in parts; a part that is not coded is None
 pub record PpsValue : Type 0 where
   pub opening : PpsOpening
   pub quantization : PpsQuantization
@@ -34,7 +34,7 @@ pub record PpsValue : Type 0 where
   pub pps_extension_present_flag : ℕ
   pub extension : Option PpsExtension
 
--- The parts behind the opening, in coded order.
+-- the parts behind the opening, in coded order
 abbrev pub BehindOpening : Type 0
 BehindOpening =
     PpsQuantization
@@ -65,7 +65,7 @@ behind_opening = do
   pps_extension_present_flag ← named "pps_extension_present_flag" (u 1)
   when (is_set pps_extension_present_flag) extension
 
--- A value's opening, and its parts behind that.
+-- a value's opening, and its parts behind that
 abbrev pub in_parts : PpsValue → PpsOpening × BehindOpening
 in_parts v =
     v.opening
@@ -82,7 +82,7 @@ in_parts v =
     ▸ v.pps_extension_present_flag
     ▸ v.extension
 
--- The fields up to the tail.
+-- the fields up to the tail
 unfoldable pub pps_fields : Table PpsValue
 pps_fields = shaped
     (λ (opening, (quantization, (tools, (tiles, (pps_loop_filter_across_slices_enabled_flag, (deblocking, (pps_scaling_list_data_present_flag, (scaling_list_data, (lists_modification_present_flag, (log2_parallel_merge_level_minus2, (slice_segment_header_extension_present_flag, (pps_extension_present_flag, extension)))))))))))). record {
@@ -106,12 +106,12 @@ pps_fields = shaped
       opening
       behind_opening
 
--- A tail stands behind the fields where pps_extension_4bits is above 0.
+-- a tail stands behind the fields where pps_extension_4bits is above 0
 abbrev pub has_tail : Option PpsExtension → Bool
 has_tail (Some extended) = over 0 extended.pps_extension_4bits
 has_tail None = false
 
--- The payload: at most 65,536 bytes, or else the limit rule (this project's profile); the fields, the tail
--- (pps_extension_data_flag) and the trailing bits.
+-- the payload: at most 65,536 bytes, or else the limit rule (this project's profile); the fields, the tail
+-- (pps_extension_data_flag) and the trailing bits
 abbrev pub pps : Payload PpsValue
 pps = record { fields = pps_fields; size_rule = PpsLimit; has_tail = λ v. has_tail v.extension }

@@ -6,7 +6,7 @@ use Rattle.mv_syntax.specs.Words.{◌▸◌, ◌>>◌, ◌!◌∶◌, over, is_s
 use Rattle.mv_syntax.specs.Loops.{ues}
 use Rattle.mv_rules.specs.declared.rule.Rule.TheVariants.{PpsLimit}
 
--- The fields in coded order; a loop that is not coded is None.
+-- the fields in coded order; a loop that is not coded is None
 pub record PpsTilesValue : Type 0 where
   pub num_tile_columns_minus1 : ℕ
   pub num_tile_rows_minus1 : ℕ

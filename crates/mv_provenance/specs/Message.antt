@@ -4,7 +4,7 @@ use Rattle.sha2.specs.Hashers.{Holds256}
 use Rattle.sha2.specs.Sha256.{sha256}
 use Rattle.mv_provenance.specs.declared.message.Message.{Message}
 
--- the SHA-256 of a message (FIPS 180-4). It is defined for fewer than 2^61 bytes, and for more there stand 32 zero bytes
+-- the SHA-256 of a message (FIPS 180-4); it is defined for fewer than 2^61 bytes, and for more there stand 32 zero bytes
 abbrev pub digest_of : List ℕ → List ℕ
 digest_of bytes = if nat_lt (length bytes) (2 ^ 61) then sha256 bytes else replicate 32 0
 

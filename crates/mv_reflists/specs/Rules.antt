@@ -18,7 +18,7 @@ list_entry num_pic_total_curr full =
 unfoldable pub no_refs : ℕ → SliceFull → Bool
 no_refs num_pic_total_curr full = predicts full && nat_eq num_pic_total_curr 0
 
--- Collocated: a coded collocated_ref_idx isn't below the active entries of its list, which is list 0 where no flag says
+-- collocated: a coded collocated_ref_idx isn't below the active entries of its list, which is list 0 where no flag says
 abbrev pub collocated_entries : SliceContextValue → SliceFull → SliceLists → ℕ
 collocated_entries ctx full lists = if is_set (lists.collocated_from_l0_flag otherwise 1) then active_l0 ctx full else active_l1 ctx full
 

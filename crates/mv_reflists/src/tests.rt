@@ -24,56 +24,56 @@ struct SplitRow {
 }
 
 static SPLITS: [SplitRow; 8] = [
-    // between the two views
+    // Between the two views.
     SplitRow {
         view: 1,
         base_view: 0,
         active: &[(0, 0, true), (1, 2, true)],
         sets: Some((&[0], &[1])),
     },
-    // no active layer
+    // No active layer.
     SplitRow {
         view: 1,
         base_view: 0,
         active: &[],
         sets: Some((&[], &[])),
     },
-    // below the base view: what lies above its own view is on the side of the base view
+    // Below the base view: what lies above its own view is on the side of the base view.
     SplitRow {
         view: 3,
         base_view: 5,
         active: &[(0, 5, true), (2, 9, true), (3, 1, true), (4, 4, true)],
         sets: Some((&[0, 2, 4], &[3])),
     },
-    // above it
+    // Above it.
     SplitRow {
         view: 7,
         base_view: 5,
         active: &[(3, 9, true), (0, 5, true), (2, 6, true), (4, 1, true)],
         sets: Some((&[0, 2, 4], &[3])),
     },
-    // with the view of layer 0 both sides are its own
+    // With the view of layer 0 both sides are its own.
     SplitRow {
         view: 5,
         base_view: 5,
         active: &[(2, 9, true), (3, 1, true)],
         sets: Some((&[2, 3], &[])),
     },
-    // with a reference of the picture's own view
+    // With a reference of the picture's own view.
     SplitRow {
         view: 1,
         base_view: 0,
         active: &[(2, 1, true), (3, 4294967295, true)],
         sets: Some((&[2], &[3])),
     },
-    // the only active layer is missing
+    // The only active layer is missing.
     SplitRow {
         view: 1,
         base_view: 0,
         active: &[(0, 0, false)],
         sets: None,
     },
-    // the last one is
+    // The last one is.
     SplitRow {
         view: 1,
         base_view: 0,
@@ -176,7 +176,7 @@ struct Row {
 const NONE: (Option<u8>, Option<u32>) = (None, None);
 
 static LISTS: [Row; 13] = [
-    // a P segment repeats its two references
+    // A P segment repeats its two references.
     Row {
         sizes: [1, 0, 0, 1, 0],
         slice_type: 1,
@@ -185,7 +185,7 @@ static LISTS: [Row; 13] = [
         collocated: NONE,
         lists: Ok((&[0, 1, 0], &[])),
     },
-    // one picture on each side of the picture's view
+    // One picture on each side of the picture's view.
     Row {
         sizes: [0, 0, 0, 1, 1],
         slice_type: 0,
@@ -194,7 +194,7 @@ static LISTS: [Row; 13] = [
         collocated: NONE,
         lists: Ok((&[0, 1], &[1, 0])),
     },
-    // all five parts, in the order of each list
+    // All five parts, in the order of each list.
     Row {
         sizes: [2, 1, 1, 2, 1],
         slice_type: 0,
@@ -203,7 +203,7 @@ static LISTS: [Row; 13] = [
         collocated: NONE,
         lists: Ok((&[0, 1, 4, 5, 2, 3, 6], &[2, 6, 0, 1, 3, 4, 5, 2])),
     },
-    // as many as the picture parameter set says
+    // As many as the picture parameter set says.
     Row {
         sizes: [2, 1, 0, 0, 0],
         slice_type: 0,
@@ -212,7 +212,7 @@ static LISTS: [Row; 13] = [
         collocated: NONE,
         lists: Ok((&[0, 1], &[2])),
     },
-    // the initial entries at the list entries
+    // The initial entries at the list entries.
     Row {
         sizes: [1, 1, 0, 1, 0],
         slice_type: 0,
@@ -221,7 +221,7 @@ static LISTS: [Row; 13] = [
         collocated: NONE,
         lists: Ok((&[1, 0, 2, 2], &[2])),
     },
-    // 15 entries of 15 references, and of one
+    // 15 entries of 15 references, and of one.
     Row {
         sizes: [15, 0, 0, 0, 0],
         slice_type: 0,
@@ -244,7 +244,7 @@ static LISTS: [Row; 13] = [
         collocated: NONE,
         lists: Ok((&[0, 0, 0, 0, 0, 0, 0, 0, 0, 0, 0, 0, 0, 0, 0], &[0])),
     },
-    // 255 references: the last place is 254
+    // 255 references: the last place is 254.
     Row {
         sizes: [51, 51, 51, 51, 51],
         slice_type: 0,
@@ -253,7 +253,7 @@ static LISTS: [Row; 13] = [
         collocated: NONE,
         lists: Ok((&[254, 153], &[203, 204])),
     },
-    // an I segment has no lists
+    // An I segment has no lists.
     Row {
         sizes: [1, 0, 0, 1, 0],
         slice_type: 2,
@@ -270,7 +270,7 @@ static LISTS: [Row; 13] = [
         collocated: NONE,
         lists: Ok((&[], &[])),
     },
-    // the last entry of list 0 where no flag says, of list 0 and of list 1
+    // The last entry of list 0 where no flag says, of list 0 and of list 1.
     Row {
         sizes: [1, 1, 0, 0, 0],
         slice_type: 1,
@@ -298,7 +298,7 @@ static LISTS: [Row; 13] = [
 ];
 
 static REFUSED: [Row; 10] = [
-    // a list entry of list 0, and one of list 1, past two references
+    // A list entry of list 0, and one of list 1, past two references.
     Row {
         sizes: [1, 0, 1, 0, 0],
         slice_type: 1,
@@ -315,7 +315,7 @@ static REFUSED: [Row; 10] = [
         collocated: NONE,
         lists: Err(Rule::ListEntry),
     },
-    // no reference, of a P and of a B segment
+    // No reference, of a P and of a B segment.
     Row {
         sizes: [0, 0, 0, 0, 0],
         slice_type: 1,
@@ -332,7 +332,7 @@ static REFUSED: [Row; 10] = [
         collocated: NONE,
         lists: Err(Rule::NoRefs),
     },
-    // past list 0 where no flag says, past list 0 and past list 1
+    // Past list 0 where no flag says, past list 0 and past list 1.
     Row {
         sizes: [1, 1, 0, 0, 0],
         slice_type: 1,
@@ -365,7 +365,7 @@ static REFUSED: [Row; 10] = [
         collocated: (None, Some(4294967295)),
         lists: Err(Rule::Collocated),
     },
-    // the least rule of two
+    // The least rule of two.
     Row {
         sizes: [0, 0, 0, 0, 0],
         slice_type: 1,

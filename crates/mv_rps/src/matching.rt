@@ -46,7 +46,7 @@ fn ahead_of_cycles(max_lsb: u32, current: i32, bits: u16, cycle: u64) -> i128
     i128::from(ahead(bits, current)) - reach(max_lsb, cycle)
 }
 
-// pocLt of a long-term entry with its cycle.
+// PocLt of a long-term entry with its cycle.
 #[tactic(auto, unfolding(mv_pictures::specs::Held::full_count))]
 fn full_count(max_lsb: u32, current: i32, bits: u16, cycle: u64) -> i128
     requires some { 1 ≤ max_lsb }

@@ -112,7 +112,7 @@ fn short_term_entries_match_by_distance(rt: HostRuntime) -> Result<(), Fail> {
                 long: &[],
             }),
         ),
-        // no entry names the first and the last
+        // No entry names the first and the last.
         (
             TWO_BEFORE,
             3,
@@ -124,10 +124,10 @@ fn short_term_entries_match_by_distance(rt: HostRuntime) -> Result<(), Fail> {
                 long: &[],
             }),
         ),
-        // one that is marked for long-term reference is no match, and a missing one is refused
+        // One that is marked for long-term reference is no match, and a missing one is refused.
         (TWO_BEFORE, 3, &[(1, false), (2, true)], None),
         (TWO_BEFORE, 3, &[(2, false)], None),
-        // an entry that the picture doesn't use keeps its match, and needs none
+        // An entry that the picture doesn't use keeps its match, and needs none.
         (
             ONE_UNUSED,
             3,
@@ -189,7 +189,7 @@ const UNUSED_AND_LONG: &'static [u8] = &[0xD9, 0x96, 0x45, 0x60];
 fn long_term_entries_match_first(rt: HostRuntime) -> Result<(), Fail> {
     let rows: [Row; 8] = [
         (LOW_BITS_5, 3, &[(4, false), (22, false)], None),
-        // the last decoded of two with these low bits
+        // The last decoded of two with these low bits.
         (
             LOW_BITS_5,
             3,
@@ -223,7 +223,7 @@ fn long_term_entries_match_first(rt: HostRuntime) -> Result<(), Fail> {
                 long: &[],
             }),
         ),
-        // counts 21 and 5 in full
+        // Counts 21 and 5 in full.
         (
             TWO_CYCLES,
             23,
@@ -235,7 +235,7 @@ fn long_term_entries_match_first(rt: HostRuntime) -> Result<(), Fail> {
                 long: &[1, 0],
             }),
         ),
-        // the short-term entry takes the one that is left
+        // The short-term entry takes the one that is left.
         (SHORT_AND_LONG, 3, &[(2, false)], None),
         (
             SHORT_AND_LONG,

@@ -55,7 +55,7 @@ fn behind(first: &PocAsk, second: &PocAsk) -> (Result<i32, Rule>, Result<i32, Ru
 
 #[test]
 fn a_count_is_the_nearest_with_its_low_bits(rt: HostRuntime) -> Result<(), Fail> {
-    // the low bits of a start and its count, and those of a picture behind it and its count, with 4 low bits
+    // The low bits of a start and its count, and those of a picture behind it and its count, with 4 low bits.
     let rows = [
         (0, 0, 8, 8),
         (0, 0, 9, -7),
@@ -86,7 +86,7 @@ fn a_count_is_the_nearest_with_its_low_bits(rt: HostRuntime) -> Result<(), Fail>
 
 #[test]
 fn an_anchor_is_a_reference_of_the_lowest_sub_layer(rt: HostRuntime) -> Result<(), Fail> {
-    // nal_unit_type and TemporalId of a picture with count 8, and the count of one behind it with the low bits 15
+    // nal_unit_type and TemporalId of a picture with count 8, and the count of one behind it with the low bits 15.
     let rows = [
         (1, 0, 15),
         (1, 1, -1),
@@ -120,7 +120,7 @@ fn a_start_above_has_the_count_of_the_base_picture(rt: HostRuntime) -> Result<()
         next(&mut state, &above(start(0), 33)),
         Err(Rule::PocMismatch)
     );
-    // the refusal changed nothing: 17 is the anchor
+    // The refusal changed nothing: 17 is the anchor.
     assert_eq!(rt; next(&mut state, &above(picture(9), 25)), Ok(25));
     assert_eq!(rt;
         next(&mut state, &above(picture(10), 42)),
@@ -143,7 +143,7 @@ fn a_start_above_has_the_count_of_the_base_picture(rt: HostRuntime) -> Result<()
 
 #[test]
 fn counts_end_with_32_bits(rt: HostRuntime) -> Result<(), Fail> {
-    // the count of a start, the low bits of a picture behind it, and its count
+    // The count of a start, the low bits of a picture behind it, and its count.
     let rows = [
         (i32::MAX - 8, 15, Ok(i32::MAX)),
         (i32::MAX, 0, Err(Rule::PocRange)),
@@ -225,7 +225,7 @@ fn set_of(alloc: Global, kind: u8, payload: &[u8]) -> Result<RefSet, RefFault> {
 #[test]
 fn a_set_has_at_most_fifteen_entries(rt: HostRuntime) -> Result<(), Fail> {
     let alloc = rt.alloc();
-    // I slices: with two used entries, with 15, with 16; of IRAP pictures with two and with 16; of an IDR picture
+    // I slices: with two used entries, with 15, with 16; of IRAP pictures with two and with 16; of an IDR picture.
     let rows: [(u8, &'static [u8], Option<Rule>); 6] = [
         (1, &[0xD9, 0x9F, 0xF0], None),
         (1, &[0xD9, 0x82, 0x1F, 0xFF, 0xFF, 0xFF, 0xF0], None),

@@ -3,7 +3,7 @@ use Rattle.std.specs.Prelude.{ℕ, List, ◌++◌, codes, decimal}
 use Rattle.mv_rules.specs.declared.rule.Rule.{Rule}
 use Rattle.mv_rules.specs.declared.rule.Rule.TheVariants.{Leading, Short, Emulation, Long, Head, VpsSyntax, ExternalBase, Splitting, Depth, Spatial, Auxiliary, ReservedDimension, NoViewDimension, SameView, AddedLayerSets, AltOutput, LayerSetBase, LayerSetClosure, LayerSetUnknown, ReservedOutput, DependencyType, VpsLimit, VpsTid, NoVps, SpsSyntax, SpsRange, Sps3d, SpsScc, ColourPlanes, SpsTid, SpsLimit, PpsSyntax, PpsRange, Pps3d, PpsScc, PocReset, LocationOffsets, ColourMapping, PpsLimit, MissingPps, MissingSps, SliceSyntax, CrossLayerBla, NoBase, LayerOrder, OrphanSlice, SliceDiffers, AddressOrder, TidDiffers, NoIrap, SpsChanged, FormatDiffers, PocRange, PocMismatch, IrapRefers, TooManyRefs, MissingRef, MissingInterLayer, ListEntry, NoRefs, Collocated, Reorder, NoPicture, VpsMidCvs, Truncated, InnerCode, LastZero}
 
--- A line for each rule: its number, and its name.
+-- a line for each rule: its number, and its name
 abbrev pub entry : Rule → ℕ × List ℕ
 entry Leading = (1, codes "Leading")
 entry Short = (2, codes "Short")

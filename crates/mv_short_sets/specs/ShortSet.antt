@@ -11,13 +11,13 @@ use Rattle.mv_short_sets.specs.declared.delta.Delta.{Delta}
 use Rattle.mv_short_sets.specs.declared.delta.Side.{Side}
 use Rattle.mv_short_sets.specs.declared.delta.Side.TheVariants.{Before, After}
 
--- The flags of one candidate of a predicted set.
+-- the flags of one candidate of a predicted set
 unfoldable pub candidate_flags : Table (ℕ ⊗ Option ℕ)
 candidate_flags = do
   used_by_curr_pic_flag ← named "used_by_curr_pic_flag" (u 1)
   named "use_delta_flag" (when (not (is_set used_by_curr_pic_flag)) (u 1))
 
--- One picture of a set that is coded directly: s0 before the current one, s1 after it.
+-- one picture of a set that is coded directly: s0 before the current one, s1 after it
 abbrev pub delta_poc_minus1 : Side → String
 delta_poc_minus1 Before = "delta_poc_s0_minus1"
 delta_poc_minus1 After = "delta_poc_s1_minus1"
@@ -31,11 +31,11 @@ picture side = do
   named (delta_poc_minus1 side) (ue unless over 32767)
   named (used_by_curr_pic_flag_of side) (u 1)
 
--- How many candidates a set has: the deltas of its reference set and its picture; none where it is coded directly.
+-- how many candidates a set has: the deltas of its reference set and its picture; none where it is coded directly
 abbrev pub num_candidates : Bool → List Delta → ℕ
 num_candidates is_predicted reference = if is_predicted then length reference + 1 else 0
 
--- The fields of set idx of num, where the sets before it have the deltas `earlier`.
+-- the fields of set idx of num, where the sets before it have the deltas `earlier`
 unfoldable pub set_fields : ℕ → ℕ → List (List Delta) → Table ShortSetValue
 set_fields idx num earlier = shaped
     (λ (inter_ref_pic_set_prediction_flag, (delta_idx_minus1, (delta_rps_sign, (abs_delta_rps_minus1, ((used_by_curr_pic_flag, use_delta_flag), (num_negative_pics, (num_positive_pics, ((delta_poc_s0_minus1, used_by_curr_pic_s0_flag), (delta_poc_s1_minus1, used_by_curr_pic_s1_flag))))))))). record {
@@ -76,16 +76,16 @@ set_fields idx num earlier = shaped
         columns 0 (or_zero num_negative_pics) (each (picture Before))
         columns 0 (or_zero num_positive_pics) (each (picture After))
 
--- The set: behind its last field it is past its limit where it has over 16 deltas.
+-- the set: behind its last field it is past its limit where it has over 16 deltas
 unfoldable pub st_ref_pic_set : ℕ → ℕ → List (List Delta) → Table ShortSetValue
 st_ref_pic_set idx num earlier = set_fields idx num earlier unless (λ s. over 16 (length (deltas idx earlier s)))
 
--- Each of some sets from set 0 on is valid, as one of num.
+-- each of some sets from set 0 on is valid, as one of num
 abbrev pub ValidSets : ℕ → List ShortSetValue → Type 0
 ValidSets num sets = EachValid (λ before s. Valid (st_ref_pic_set (length before) num (deltas_of_each before)) s) [] sets
 
--- What a set is read and written by: it is set idx of at most num, num is at most 64, and `earlier` are the valid sets 0 to
--- idx - 1.
+-- what a set is read and written by: it is set idx of at most num, num is at most 64, and `earlier` are the valid sets 0 to
+-- idx - 1
 pub record AreShortArgs (idx num : ℕ) (earlier : List ShortSetValue) : Type 0 where
   pub within : idx ≤ num
   pub few : num ≤ 64

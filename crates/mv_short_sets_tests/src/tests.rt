@@ -67,7 +67,7 @@ fn again(alloc: Global, coded: &Coded) -> Result<(Vec<Delta>, Vec<u8>, Printer),
 
 // The sets before: one of -1 and -2; behind it one of -5; one of 16 pictures before, from -1 to -16.
 static SETS: [(Coded, &[(i32, bool)]); 7] = [
-    // coded directly: two before, one after
+    // Coded directly: two before, one after.
     (
         Coded {
             earlier: &[],
@@ -77,7 +77,7 @@ static SETS: [(Coded, &[(i32, bool)]); 7] = [
         },
         &[(-1, true), (-3, false), (3, true)],
     ),
-    // predicted from set 0 with a delta of 1, and of -1
+    // Predicted from set 0 with a delta of 1, and of -1.
     (
         Coded {
             earlier: &[0x7F],
@@ -96,7 +96,7 @@ static SETS: [(Coded, &[(i32, bool)]); 7] = [
         },
         &[(-1, true), (-2, true), (-3, true)],
     ),
-    // use_delta_flag 0 leaves one out, used_by_curr_pic_flag 0 keeps one for later pictures
+    // use_delta_flag 0 leaves one out, used_by_curr_pic_flag 0 keeps one for later pictures.
     (
         Coded {
             earlier: &[0x7F],
@@ -106,7 +106,7 @@ static SETS: [(Coded, &[(i32, bool)]); 7] = [
         },
         &[(-1, false), (-3, true)],
     ),
-    // the set of a slice header, predicted from set 0 and from set 1, and coded directly
+    // The set of a slice header, predicted from set 0 and from set 1, and coded directly.
     (
         Coded {
             earlier: &[0x7F, 0x29, 0x60],
@@ -151,7 +151,7 @@ fn deltas_of_sets(rt: HostRuntime) -> Result<(), Fail> {
 }
 
 static LIMITS: [(Coded, Option<Fault<Limit>>); 13] = [
-    // 17 pictures before, and 16 before with one after
+    // 17 pictures before, and 16 before with one after.
     (
         Coded {
             earlier: &[],
@@ -170,7 +170,7 @@ static LIMITS: [(Coded, Option<Fault<Limit>>); 13] = [
         },
         Some(Fault::Breaks(Limit)),
     ),
-    // delta_poc_s0_minus1 and delta_poc_s1_minus1 32767 and 32768
+    // delta_poc_s0_minus1 and delta_poc_s1_minus1 32767 and 32768.
     (
         Coded {
             earlier: &[],
@@ -207,7 +207,7 @@ static LIMITS: [(Coded, Option<Fault<Limit>>); 13] = [
         },
         Some(Fault::Breaks(Limit)),
     ),
-    // abs_delta_rps_minus1 32767 and 32768
+    // abs_delta_rps_minus1 32767 and 32768.
     (
         Coded {
             earlier: &[0x7F],
@@ -226,7 +226,7 @@ static LIMITS: [(Coded, Option<Fault<Limit>>); 13] = [
         },
         Some(Fault::Breaks(Limit)),
     ),
-    // delta_idx_minus1 1 of set 1
+    // delta_idx_minus1 1 of set 1.
     (
         Coded {
             earlier: &[0x7F],
@@ -236,7 +236,7 @@ static LIMITS: [(Coded, Option<Fault<Limit>>); 13] = [
         },
         Some(Fault::Breaks(Limit)),
     ),
-    // 17 deltas, and 16 of 17 candidates
+    // 17 deltas, and 16 of 17 candidates.
     (
         Coded {
             earlier: &[0x08, 0xFF, 0xFF, 0xFF, 0xFF, 0xC0],
@@ -255,7 +255,7 @@ static LIMITS: [(Coded, Option<Fault<Limit>>); 13] = [
         },
         None,
     ),
-    // bits that end in a delta of a picture, and in that of a reference set
+    // Bits that end in a delta of a picture, and in that of a reference set.
     (
         Coded {
             earlier: &[],

@@ -4,7 +4,7 @@ use Rattle.std.specs.List.{All}
 use Rattle.mv_short_sets.specs.ShortSetValue.{ShortSetValue}
 use Rattle.mv_short_sets.specs.ShortSet.{ValidSets}
 
--- The values of the context, its lists as their items.
+-- the values of the context, its lists as their items
 pub record SliceContextValue : Type 0 where
   pub layer : ℕ
   pub directs : ℕ
@@ -40,17 +40,17 @@ pub record SliceContextValue : Type 0 where
   pub lists_modification_present_flag : ℕ
   pub slice_segment_header_extension_present_flag : ℕ
 
--- A flag, u(1), is 0 or 1.
+-- a flag, u(1), is 0 or 1
 abbrev pub IsFlag : ℕ → Type 0
 IsFlag flag = flag ≤ 1
 
--- Numbers rise from one to the next.
+-- numbers rise from one to the next
 abbrev pub Rises : List ℕ → Type 0
 Rises [] = Unit {0}
 Rises (n ∷ more) = All (λ m. n < m) more × Rises more
 
--- A context fits: each number is within its limit, the short-term sets are the valid sets of a sequence parameter set, the
--- long-term lists are as long as it says, and the layers that may be referred to are among the direct reference layers.
+-- a context fits: each number is within its limit, the short-term sets are the valid sets of a sequence parameter set, the
+-- long-term lists are as long as it says, and the layers that may be referred to are among the direct reference layers
 pub record Fits (c : SliceContextValue) : Type 0 where
   pub layer : c.layer ≤ 62
   pub directs : c.directs ≤ 62

@@ -10,21 +10,21 @@ use Rattle.mv_slice.specs.Context.{SliceContextValue}
 use Rattle.mv_slice.specs.LongTerms.{LongTermsValue}
 use Rattle.mv_slice.specs.declared.picture.SliceReferences.{SliceReferences}
 
--- The short-term set of a picture: the one that is coded, or else the one of the sequence parameter set that is named.
+-- the short-term set of a picture: the one that is coded, or else the one of the sequence parameter set that is named
 unfoldable pub short_deltas : SliceContextValue → Option ShortSetValue → Option ℕ → List Delta
 short_deltas ctx (Some coded) idx = deltas ctx.num_short_term_ref_pic_sets (deltas_of_each ctx.short_sets) coded
 short_deltas ctx None idx = get_or (deltas_of_each ctx.short_sets) (or_zero idx) []
 
--- Whether a long-term entry is used by the picture: by its own flag, or else by that of its candidate (UsedByCurrPicLt).
+-- whether a long-term entry is used by the picture: by its own flag, or else by that of its candidate (UsedByCurrPicLt)
 unfoldable pub is_long_used : SliceContextValue → LongTerm → Bool
 is_long_used ctx entry = is_set (entry.used_by_curr_pic_lt_flag otherwise get_or ctx.used_by_curr_pic_lt_sps_flag (or_zero entry.lt_idx_sps) 0)
 
--- The low bits of a long-term entry's picture order count: its own, or else those of its candidate (PocLsbLt).
+-- the low bits of a long-term entry's picture order count: its own, or else those of its candidate (PocLsbLt)
 abbrev pub long_lsb : SliceContextValue → LongTerm → ℕ
 long_lsb ctx entry = entry.poc_lsb_lt otherwise get_or ctx.lt_ref_pic_poc_lsb_sps (or_zero entry.lt_idx_sps) 0
 
 -- DeltaPocMsbCycleLt[i] (7-52): the coded cycle of entry i, which counts 0 where it is absent, plus that of the entry before, but for
--- the first entry and for the first that is coded in the header.
+-- the first entry and for the first that is coded in the header
 abbrev pub coded_cycle : LongTermsValue → ℕ → ℕ
 coded_cycle long_terms i = or_zero (get_or (map (λ (entry : LongTerm). entry.delta_poc_msb_cycle_lt) long_terms.entries) i None)
 
@@ -33,7 +33,7 @@ cycle long_terms zero = coded_cycle long_terms 0
 cycle long_terms (suc i) =
     coded_cycle long_terms (suc i) + (if nat_eq (suc i) (or_zero long_terms.num_long_term_sps) then 0 else cycle long_terms i)
 
--- The used entries of the reference set.
+-- the used entries of the reference set
 unfoldable pub num_short_used : List Delta → ℕ
 num_short_used some = length (filter (λ delta. delta.used) some)
 

@@ -7,7 +7,7 @@ use Rattle.mv_syntax.specs.Loops.{us}
 use Rattle.mv_rules.specs.declared.rule.Rule.TheVariants.{SliceSyntax}
 use Rattle.mv_slice.specs.Context.{SliceContextValue}
 
--- The fields in coded order; a loop that is not coded is an empty list.
+-- the fields in coded order; a loop that is not coded is an empty list
 pub record SliceEndingValue : Type 0 where
   pub num_entry_point_offsets : Option ℕ
   pub offset_len_minus1 : Option ℕ
@@ -15,7 +15,7 @@ pub record SliceEndingValue : Type 0 where
   pub slice_segment_header_extension_length : Option ℕ
   pub slice_segment_header_extension_data_byte : List ℕ
 
--- The entry points and the extension.
+-- the entry points and the extension
 unfoldable pub ending : SliceContextValue → Table SliceEndingValue
 ending ctx = shaped
     (λ (num_entry_point_offsets, (offset_len_minus1, (entry_point_offset_minus1, (slice_segment_header_extension_length, slice_segment_header_extension_data_byte)))). record {

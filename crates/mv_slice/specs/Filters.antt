@@ -6,11 +6,11 @@ use Rattle.mv_slice.specs.declared.filters.SliceDeblocking.{SliceDeblocking}
 use Rattle.mv_slice.specs.declared.filters.SliceFilters.{SliceFilters}
 use Rattle.mv_slice.specs.Context.{SliceContextValue}
 
--- Whether the deblocking filter is off: by the flag of the slice, or else by that of the picture parameter set.
+-- whether the deblocking filter is off: by the flag of the slice, or else by that of the picture parameter set
 abbrev pub is_disabled : SliceContextValue → SliceDeblocking → Bool
 is_disabled ctx v = is_set (v.slice_deblocking_filter_disabled_flag otherwise ctx.pps_deblocking_filter_disabled_flag)
 
--- What is said of the deblocking filter.
+-- what is said of the deblocking filter
 unfoldable pub deblocking : SliceContextValue → Table SliceDeblocking
 deblocking ctx = shaped
     (λ (deblocking_filter_override_flag, (slice_deblocking_filter_disabled_flag, (slice_beta_offset_div2, slice_tc_offset_div2))). record {
@@ -33,7 +33,7 @@ deblocking ctx = shaped
           named "slice_beta_offset_div2" (when (override && not disabled) se)
           named "slice_tc_offset_div2" (when (override && not disabled) se)
 
--- From whether one of slice_sao_luma_flag and slice_sao_chroma_flag is 1.
+-- from whether one of slice_sao_luma_flag and slice_sao_chroma_flag is 1
 unfoldable pub filters : SliceContextValue → Bool → Table SliceFilters
 filters ctx sao = shaped
     (λ (slice_qp_delta, (slice_cb_qp_offset, (slice_cr_qp_offset, (deblocking, slice_loop_filter_across_slices_enabled_flag)))). record {

@@ -7,12 +7,12 @@ use Rattle.mv_syntax.specs.Table.{Table, Reads, Cut}
 use Rattle.mv_slice.specs.declared.slice.SliceHead.{SliceHead}
 use Rattle.mv_slice.specs.declared.header.SliceRead.{SliceRead}
 
--- A header stands at the head of bits, and has this many bytes with its alignment.
+-- a header stands at the head of bits, and has this many bytes with its alignment
 abbrev pub BeginsWith : Table SliceHead → List Bool → SliceRead → Type 0
 BeginsWith t b s = (rest : List Bool) × Reads t b s.head rest × (length b ≡ 8 * s.bytes + length rest)
 
--- From the first bits of a payload: a header stands there; or, with None, none does and no rule cuts these bits, so that it goes on
--- behind them or never comes; or a rule cuts them. Of want of memory nothing is said.
+-- from the first bits of a payload: a header stands there; or, with None, none does and no rule cuts these bits, so that it goes on
+-- behind them or never comes; or a rule cuts them; of want of memory nothing is said
 abbrev pub ReadsStart : Table SliceHead → List Bool → Result (Option SliceRead) ReadFault → Type 0
 ReadsStart t b (Ok (Some s)) = BeginsWith t b s
 ReadsStart t b (Ok None) = ¬ ((s : SliceRead) × BeginsWith t b s) × ¬ ((r : ℕ) × Cut t b r)

@@ -10,21 +10,21 @@ use Rattle.mv_slice.specs.Context.{SliceContextValue}
 use Rattle.mv_fields.specs.Widths.{clog2}
 use Rattle.mv_slice.specs.Layers.{num_active_ref_layer_pics, lacks_layers}
 
--- The fields in coded order; a loop that is not coded is None.
+-- the fields in coded order; a loop that is not coded is None
 pub record SliceInterLayerValue : Type 0 where
   pub inter_layer_pred_enabled_flag : Option ℕ
   pub num_inter_layer_ref_pics_minus1 : Option ℕ
   pub inter_layer_pred_layer_idc : Option (List ℕ)
 
--- num_inter_layer_ref_pics_minus1 names a number past the direct reference layers, or asks for more layers than are eligible.
+-- num_inter_layer_ref_pics_minus1 names a number past the direct reference layers, or asks for more layers than are eligible
 abbrev pub is_bad_number : SliceContextValue → ℕ → Bool
 is_bad_number ctx n = at_least ctx.directs n || lacks_layers ctx (num_active_ref_layer_pics ctx (Some 1) (Some n))
 
--- inter_layer_pred_layer_idc is past the direct reference layers, or not above those before it.
+-- inter_layer_pred_layer_idc is past the direct reference layers, or not above those before it
 abbrev pub is_bad_layer : SliceContextValue → List ℕ → ℕ → Bool
 is_bad_layer ctx before n = at_least ctx.directs n || list_any (λ m. nat_le n m) before
 
--- The number of an active layer, behind those before it: one of the direct reference layers, above all before.
+-- the number of an active layer, behind those before it: one of the direct reference layers, above all before
 unfoldable pub active_layer : SliceContextValue → ℕ → List ℕ → Table ℕ
 active_layer ctx i before =
     named "inter_layer_pred_layer_idc"

@@ -5,14 +5,14 @@ use Rattle.mv_syntax.specs.Words.{◌▸◌, ◌>>◌, coded_set}
 use Rattle.mv_syntax.specs.Loops.{us}
 use Rattle.mv_fields.specs.Widths.{clog2}
 
--- The fields in coded order; a loop that is not coded is None.
+-- the fields in coded order; a loop that is not coded is None
 pub record ListModificationValue : Type 0 where
   pub ref_pic_list_modification_flag_l0 : Option ℕ
   pub list_entry_l0 : Option (List ℕ)
   pub ref_pic_list_modification_flag_l1 : Option ℕ
   pub list_entry_l1 : Option (List ℕ)
 
--- The modification of both lists, where it is present, from NumPicTotalCurr and the numbers of active entries.
+-- the modification of both lists, where it is present, from NumPicTotalCurr and the numbers of active entries
 unfoldable pub list_modification : Bool → Bool → ℕ → ℕ → ℕ → Table ListModificationValue
 list_modification present b num_pic_total_curr active_l0 active_l1 = shaped
     (λ (ref_pic_list_modification_flag_l0, (list_entry_l0, (ref_pic_list_modification_flag_l1, list_entry_l1))). record {

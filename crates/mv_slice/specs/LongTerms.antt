@@ -9,13 +9,13 @@ use Rattle.mv_slice.specs.declared.long_terms.LongTerm.{LongTerm}
 use Rattle.mv_slice.specs.Context.{SliceContextValue}
 use Rattle.mv_fields.specs.Widths.{clog2}
 
--- The fields in coded order, those of the loop as one entry a turn.
+-- the fields in coded order, those of the loop as one entry a turn
 pub record LongTermsValue : Type 0 where
   pub num_long_term_sps : Option ℕ
   pub num_long_term_pics : ℕ
   pub entries : List LongTerm
 
--- Entry i: one of the candidates of the sequence parameter set for the first num_long_term_sps, and else coded here.
+-- entry i: one of the candidates of the sequence parameter set for the first num_long_term_sps, and else coded here
 unfoldable pub long_term : SliceContextValue → ℕ → ℕ → Table LongTerm
 long_term ctx num_long_term_sps i = shaped
     (λ (lt_idx_sps, (poc_lsb_lt, (used_by_curr_pic_lt_flag, (delta_poc_msb_present_flag, delta_poc_msb_cycle_lt)))). record {

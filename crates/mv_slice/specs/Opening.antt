@@ -10,7 +10,7 @@ use Rattle.mv_slice.specs.Context.{SliceContextValue}
 use Rattle.mv_fields.specs.Widths.{clog2}
 use Rattle.mv_slice.specs.Numbers.{is_irap}
 
--- The fields up to the id of the picture parameter set, which ask for nothing but the unit's nal_unit_type.
+-- the fields up to the id of the picture parameter set, which ask for nothing but the unit's nal_unit_type
 unfoldable pub opening : ℕ → Table SliceOpening
 opening nal_unit_type = shaped
     (λ (first_slice_segment_in_pic_flag, (no_output_of_prior_pics_flag, slice_pic_parameter_set_id)). record {
@@ -28,7 +28,7 @@ opening nal_unit_type = shaped
       named "no_output_of_prior_pics_flag" (when (is_irap nal_unit_type) (u 1))
       named "slice_pic_parameter_set_id" (ue ! SliceSyntax ∶ over 63)
 
--- Where a segment that isn't the picture's first begins, in coding tree blocks.
+-- where a segment that isn't the picture's first begins, in coding tree blocks
 unfoldable pub address : SliceContextValue → Bool → Table SliceAddress
 address ctx first = shaped
     (λ (dependent_slice_segment_flag, slice_segment_address). record {

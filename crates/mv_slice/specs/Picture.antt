@@ -15,11 +15,11 @@ use Rattle.mv_fields.specs.Widths.{clog2}
 use Rattle.mv_slice.specs.Numbers.{is_idr}
 use Rattle.mv_slice.specs.LongTerms.{LongTermsValue, long_terms}
 
--- The set of a slice segment header stands behind all sets of the sequence parameter set.
+-- the set of a slice segment header stands behind all sets of the sequence parameter set
 abbrev pub own_set : SliceContextValue → Table ShortSetValue
 own_set ctx = st_ref_pic_set ctx.num_short_term_ref_pic_sets ctx.num_short_term_ref_pic_sets (deltas_of_each ctx.short_sets) under SliceSyntax
 
--- The reference pictures in its own layer of a picture that is no IDR picture.
+-- the reference pictures in its own layer of a picture that is no IDR picture
 unfoldable pub references : SliceContextValue → Table SliceReferences
 references ctx = shaped
     (λ (short_term_ref_pic_set_sps_flag, (st_ref_pic_set, (short_term_ref_pic_set_idx, (long_terms, slice_temporal_mvp_enabled_flag)))). record {
@@ -44,7 +44,7 @@ references ctx = shaped
       when (is_set ctx.long_term_ref_pics_present_flag) (long_terms ctx)
       named "slice_temporal_mvp_enabled_flag" (when (is_set ctx.sps_temporal_mvp_enabled_flag) (u 1))
 
--- The fields in coded order.
+-- the fields in coded order
 pub record SlicePictureValue : Type 0 where
   pub discardable_flag : Option ℕ
   pub cross_layer_bla_flag : Option ℕ
@@ -54,7 +54,7 @@ pub record SlicePictureValue : Type 0 where
   pub slice_pic_order_cnt_lsb : Option ℕ
   pub references : Option SliceReferences
 
--- Whether the low bits of the picture order count are coded: for all pictures but those IDR pictures whose low bits are 0.
+-- whether the low bits of the picture order count are coded: for all pictures but those IDR pictures whose low bits are 0
 abbrev pub has_lsb : SliceContextValue → ℕ → Bool
 has_lsb ctx nal_unit_type =
     not (is_idr nal_unit_type) || (nat_lt 0 ctx.layer && not (is_set ctx.poc_lsb_not_present_flag))

@@ -11,15 +11,15 @@ use Rattle.mv_slice.specs.Numbers.{is_b, is_p}
 use Rattle.mv_slice.specs.ListModification.{list_modification}
 use Rattle.mv_slice.specs.Weights.{PredWeightTableValue, pred_weight_table}
 
--- The number of active entries of a list: the coded one, or else that of the picture parameter set.
+-- the number of active entries of a list: the coded one, or else that of the picture parameter set
 abbrev pub num_entries : Option ℕ → ℕ → ℕ
 num_entries coded_minus1 default_minus1 = (coded_minus1 otherwise default_minus1) + 1
 
--- Whether a slice has weights: by the flag for P, or by that for B.
+-- whether a slice has weights: by the flag for P, or by that for B
 abbrev pub has_weights : SliceContextValue → ℕ → Bool
 has_weights ctx slice_type = (is_p slice_type && is_set ctx.weighted_pred_flag) || (is_b slice_type && is_set ctx.weighted_bipred_flag)
 
--- The fields of a P or B slice, from NumPicTotalCurr and from whether slice_temporal_mvp_enabled_flag is 1.
+-- the fields of a P or B slice, from NumPicTotalCurr and from whether slice_temporal_mvp_enabled_flag is 1
 unfoldable pub lists : SliceContextValue → ℕ → ℕ → Bool → Table SliceLists
 lists ctx slice_type num_pic_total_curr temporal_mvp = shaped
     (λ (num_ref_idx_active_override_flag, (num_ref_idx_l0_active_minus1, (num_ref_idx_l1_active_minus1, (modification, (mvd_l1_zero_flag, (cabac_init_flag, (collocated_from_l0_flag, (collocated_ref_idx, (pred_weight_table, five_minus_max_num_merge_cand))))))))). record {
@@ -62,7 +62,7 @@ lists ctx slice_type num_pic_total_curr temporal_mvp = shaped
             when (has_weights ctx slice_type) (pred_weight_table ctx.chroma (is_b slice_type) active_l0 active_l1)
             named "five_minus_max_num_merge_cand" ue
 
--- The flags of sample adaptive offset, and for P and B slices the fields of their lists.
+-- the flags of sample adaptive offset, and for P and B slices the fields of their lists
 unfoldable pub prediction : SliceContextValue → ℕ → ℕ → Bool → Table SlicePrediction
 prediction ctx slice_type num_pic_total_curr temporal_mvp = shaped
     (λ (slice_sao_luma_flag, (slice_sao_chroma_flag, lists)). record {

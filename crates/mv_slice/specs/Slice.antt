@@ -19,22 +19,22 @@ use Rattle.mv_slice.specs.Prediction.{prediction}
 use Rattle.mv_slice.specs.Filters.{filters}
 use Rattle.mv_slice.specs.Ending.{SliceEndingValue, ending}
 
--- NumPicTotalCurr: the used entries of the reference set and the active layers (F.7.4.7.2).
+-- NumPicTotalCurr: the used entries of the reference set and the active layers (F.7.4.7.2)
 unfoldable pub num_pic_total_curr : SliceContextValue → SlicePictureValue → SliceInterLayerValue → ℕ
 num_pic_total_curr ctx picture inter_layer =
     num_used ctx picture.references
     + num_active_ref_layer_pics ctx inter_layer.inter_layer_pred_enabled_flag inter_layer.num_inter_layer_ref_pics_minus1
 
--- slice_temporal_mvp_enabled_flag is 1.
+-- slice_temporal_mvp_enabled_flag is 1
 abbrev pub has_temporal_mvp : Option SliceReferences → Bool
 has_temporal_mvp (Some references) = coded_set references.slice_temporal_mvp_enabled_flag
 has_temporal_mvp None = false
 
--- One of the flags of sample adaptive offset is 1.
+-- one of the flags of sample adaptive offset is 1
 abbrev pub has_sao : SlicePrediction → Bool
 has_sao prediction = coded_set prediction.slice_sao_luma_flag || coded_set prediction.slice_sao_chroma_flag
 
--- The fields that a dependent segment takes from the segment before it.
+-- the fields that a dependent segment takes from the segment before it
 unfoldable pub full : SliceContextValue → ℕ → Table SliceFull
 full ctx nal_unit_type = shaped
     (λ (picture, (inter_layer, (prediction, filters))). record {
@@ -55,7 +55,7 @@ full ctx nal_unit_type = shaped
       prediction_fields ← prediction ctx picture_fields.slice_type (num_pic_total_curr ctx picture_fields inter_layer_fields) (has_temporal_mvp picture_fields.references)
       filters ctx (has_sao prediction_fields)
 
--- The fields in coded order, in parts; a dependent segment has no full part.
+-- the fields in coded order, in parts; a dependent segment has no full part
 unfoldable pub slice_fields : SliceContextValue → ℕ → Table SliceHead
 slice_fields ctx nal_unit_type = shaped
     (λ (opening, (address, (full, ending))). record {
@@ -76,18 +76,18 @@ slice_fields ctx nal_unit_type = shaped
       when (not (coded_set address_fields.dependent_slice_segment_flag)) (full ctx nal_unit_type)
       ending ctx
 
--- The header: its fields, and a one bit with zeros up to the byte's end (byte_alignment(), 7.3.2.12).
+-- the header: its fields, and a one bit with zeros up to the byte's end (byte_alignment(), 7.3.2.12)
 unfoldable pub slice_header : SliceContextValue → ℕ → Table SliceHead
 slice_header ctx nal_unit_type = whole_bytes (slice_fields ctx nal_unit_type)
 
 -- ---- What a header derives; a dependent segment has neither
 
--- Its NumPicTotalCurr.
+-- its NumPicTotalCurr
 abbrev pub header_total : SliceContextValue → Option SliceFull → ℕ
 header_total ctx (Some full) = num_pic_total_curr ctx full.picture full.inter_layer
 header_total ctx None = 0
 
--- Its active layers, by their numbers.
+-- its active layers, by their numbers
 abbrev pub header_layers : SliceContextValue → Option SliceFull → List ℕ
 header_layers ctx (Some full) =
     active_layers ctx (num_active_ref_layer_pics ctx full.inter_layer.inter_layer_pred_enabled_flag full.inter_layer.num_inter_layer_ref_pics_minus1)

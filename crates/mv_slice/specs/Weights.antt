@@ -5,25 +5,25 @@ use Rattle.mv_syntax.specs.Words.{◌▸◌, ◌>>◌, is_set, ◌otherwise◌}
 use Rattle.mv_syntax.specs.Loops.{items, us, each}
 use Rattle.mv_slice.specs.declared.weights.ChromaWeight.{ChromaWeight}
 
--- The weights of an entry; those of chroma are that of Cb and that of Cr.
+-- the weights of an entry; those of chroma are that of Cb and that of Cr
 pub record EntryWeightsValue : Type 0 where
   pub delta_luma_weight : Option ℤ
   pub luma_offset : Option ℤ
   pub chroma : Option (List ChromaWeight)
 
--- The weights of a list.
+-- the weights of a list
 pub record ListWeightsValue : Type 0 where
   pub luma_weight_flag : List ℕ
   pub chroma_weight_flag : Option (List ℕ)
   pub entries : List EntryWeightsValue
 
--- The fields in coded order.
+-- the fields in coded order
 pub record PredWeightTableValue : Type 0 where
   pub luma_log2_weight_denom : ℕ
   pub delta_chroma_log2_weight_denom : Option ℤ
   pub lists : List ListWeightsValue
 
--- The weight of Cb, or that of Cr.
+-- the weight of Cb, or that of Cr
 unfoldable pub chroma_weight : Table ChromaWeight
 chroma_weight = shaped
     (λ (delta_chroma_weight, delta_chroma_offset). record {
@@ -42,11 +42,11 @@ chroma_weight = shaped
 unfoldable pub chroma_weights : Table (List ChromaWeight)
 chroma_weights = items 0 2 (each chroma_weight)
 
--- Flag i of a list is 1.
+-- flag i of a list is 1
 abbrev pub flag_at : List ℕ → ℕ → Bool
 flag_at flags i = is_set (get_or flags i 0)
 
--- Entry i, behind the flags of all.
+-- entry i, behind the flags of all
 unfoldable pub entry_weights : List ℕ → List ℕ → ℕ → Table EntryWeightsValue
 entry_weights luma_weight_flag chroma_weight_flag i = shaped
     (λ (delta_luma_weight, (luma_offset, chroma)). record {
@@ -68,7 +68,7 @@ entry_weights luma_weight_flag chroma_weight_flag i = shaped
 unfoldable pub entry_weights_of_all : List ℕ → List ℕ → ℕ → Table (List EntryWeightsValue)
 entry_weights_of_all luma_weight_flag chroma_weight_flag active = items 0 active (entry_weights luma_weight_flag chroma_weight_flag)
 
--- The weights of a list with this number of active entries.
+-- the weights of a list with this number of active entries
 unfoldable pub list_weights : Bool → ℕ → Table ListWeightsValue
 list_weights chroma active = shaped
     (λ (luma_weight_flag, (chroma_weight_flag, entries)). record {
@@ -86,7 +86,7 @@ list_weights chroma active = shaped
       chroma_weight_flag ← named "chroma_weight_flag" (when chroma (us 0 active 1))
       entry_weights_of_all luma_weight_flag (chroma_weight_flag otherwise []) active
 
--- List 0 or 1, from the numbers of active entries of both.
+-- list 0 or 1, from the numbers of active entries of both
 unfoldable pub numbered_list : Bool → ℕ → ℕ → ℕ → Table ListWeightsValue
 numbered_list chroma active_l0 active_l1 list = list_weights chroma (if nat_eq list 0 then active_l0 else active_l1)
 

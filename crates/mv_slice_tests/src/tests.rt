@@ -185,7 +185,7 @@ struct Row {
 
 // The slices of layer 0 in a stream of two views, and in one with a leading picture, as another reader tells them.
 static FIRST_VIEW: [Row; 4] = [
-    // an IDR picture
+    // An IDR picture.
     Row {
         kind: 19,
         payload: &[0xAF, 0xD0],
@@ -193,7 +193,7 @@ static FIRST_VIEW: [Row; 4] = [
         lines: "  first_slice_segment_in_pic_flag=1\n  no_output_of_prior_pics_flag=0\n  \
                 slice_pic_parameter_set_id=0\n  slice_type=2\n  slice_qp_delta=0\n",
     },
-    // a picture that refers to the one before it
+    // A picture that refers to the one before it.
     Row {
         kind: 1,
         payload: &[0xD0, 0x97, 0x70, 0xD2],
@@ -203,7 +203,7 @@ static FIRST_VIEW: [Row; 4] = [
                 num_positive_pics=0\n  delta_poc_s0_minus1[0]=0\n  used_by_curr_pic_s0_flag[0]=1\n  \
                 num_ref_idx_active_override_flag=0\n  five_minus_max_num_merge_cand=0\n  slice_qp_delta=0\n",
     },
-    // a clean random access picture
+    // A clean random access picture.
     Row {
         kind: 21,
         payload: &[0xAD, 0x1E, 0xD0],
@@ -213,7 +213,7 @@ static FIRST_VIEW: [Row; 4] = [
                 short_term_ref_pic_set_sps_flag=0\n  num_negative_pics=0\n  num_positive_pics=0\n  \
                 slice_qp_delta=0\n",
     },
-    // its leading picture
+    // Its leading picture.
     Row {
         kind: 9,
         payload: &[0xD1, 0xAB, 0x70, 0xD2],
@@ -227,7 +227,7 @@ static FIRST_VIEW: [Row; 4] = [
 
 // Those of layer 1.
 static SECOND_VIEW: [Row; 4] = [
-    // an IDR picture
+    // An IDR picture.
     Row {
         kind: 19,
         payload: &[0x92, 0x07, 0xD1],
@@ -236,7 +236,7 @@ static SECOND_VIEW: [Row; 4] = [
                 slice_pic_parameter_set_id=1\n  slice_type=1\n  slice_pic_order_cnt_lsb=0\n  \
                 num_ref_idx_active_override_flag=0\n  five_minus_max_num_merge_cand=0\n  slice_qp_delta=0\n",
     },
-    // a picture that refers to the one before it
+    // A picture that refers to the one before it.
     Row {
         kind: 1,
         payload: &[0xA4, 0x25, 0xEB, 0x80, 0xD3],
@@ -247,7 +247,7 @@ static SECOND_VIEW: [Row; 4] = [
                 num_ref_idx_active_override_flag=1\n  num_ref_idx_l0_active_minus1=1\n  \
                 five_minus_max_num_merge_cand=0\n  slice_qp_delta=0\n",
     },
-    // a clean random access picture
+    // A clean random access picture.
     Row {
         kind: 21,
         payload: &[0x92, 0x46, 0xE0, 0xD1],
@@ -257,7 +257,7 @@ static SECOND_VIEW: [Row; 4] = [
                 short_term_ref_pic_set_sps_flag=0\n  num_negative_pics=0\n  num_positive_pics=0\n  \
                 num_ref_idx_active_override_flag=0\n  five_minus_max_num_merge_cand=0\n  slice_qp_delta=0\n",
     },
-    // its leading picture
+    // Its leading picture.
     Row {
         kind: 9,
         payload: &[0xA4, 0x6A, 0xDC, 0xD3],
@@ -271,7 +271,7 @@ static SECOND_VIEW: [Row; 4] = [
 
 // Slices whose sets have every flag set.
 static ALL_FLAGS: [Row; 3] = [
-    // a B slice with every field that can be there
+    // A B slice with every field that can be there.
     Row {
         kind: 1,
         payload: &[
@@ -307,7 +307,7 @@ static ALL_FLAGS: [Row; 3] = [
                 slice_segment_header_extension_data_byte[0]=171\n  \
                 slice_segment_header_extension_data_byte[1]=205\n",
     },
-    // a dependent segment
+    // A dependent segment.
     Row {
         kind: 1,
         payload: &[0x70, 0x78, 0xFF],
@@ -316,7 +316,7 @@ static ALL_FLAGS: [Row; 3] = [
                 dependent_slice_segment_flag=1\n  slice_segment_address=65\n  num_entry_point_offsets=0\n  \
                 slice_segment_header_extension_length=0\n",
     },
-    // a P slice whose set is predicted from set 1
+    // A P slice whose set is predicted from set 1.
     Row {
         kind: 1,
         payload: &[0x58, 0xC1, 0x00, 0x57, 0x38, 0x19, 0xEE],
@@ -341,7 +341,7 @@ static ALL_FLAGS: [Row; 3] = [
 
 // Inter-layer fields with one direct reference layer, with two, and with three.
 static ONE_LAYER: [Row; 2] = [
-    // refers to the layer
+    // Refers to the layer.
     Row {
         kind: 1,
         payload: &[0xD2, 0xBB, 0x80],
@@ -351,7 +351,7 @@ static ONE_LAYER: [Row; 2] = [
                 num_positive_pics=0\n  inter_layer_pred_enabled_flag=1\n  num_ref_idx_active_override_flag=0\n  \
                 five_minus_max_num_merge_cand=0\n  slice_qp_delta=0\n",
     },
-    // does not
+    // Does not.
     Row {
         kind: 1,
         payload: &[0xD2, 0xB3, 0x80],
@@ -364,7 +364,7 @@ static ONE_LAYER: [Row; 2] = [
 ];
 
 static TWO_LAYERS: [Row; 2] = [
-    // one layer, named
+    // One layer, named.
     Row {
         kind: 1,
         payload: &[0xD2, 0xBA, 0xE0],
@@ -375,7 +375,7 @@ static TWO_LAYERS: [Row; 2] = [
                 inter_layer_pred_layer_idc[0]=1\n  num_ref_idx_active_override_flag=0\n  \
                 five_minus_max_num_merge_cand=0\n  slice_qp_delta=0\n",
     },
-    // both layers, so that two pictures may be referred to
+    // Both layers, so that two pictures may be referred to.
     Row {
         kind: 1,
         payload: &[0xD2, 0xBC, 0xE0],
@@ -389,7 +389,7 @@ static TWO_LAYERS: [Row; 2] = [
 ];
 
 static THREE_LAYERS: [Row; 1] = [
-    // two of three layers
+    // Two of three layers.
     Row {
         kind: 1,
         payload: &[0xD2, 0xBA, 0x47],

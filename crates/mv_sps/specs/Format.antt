@@ -7,7 +7,7 @@ use Rattle.mv_rules.specs.declared.rule.Rule.TheVariants.{ColourPlanes, SpsLimit
 use Rattle.mv_sps.specs.declared.rep_format.SpsRepFormat.{SpsRepFormat}
 use Rattle.mv_sps.specs.declared.picture_format.SpsPictureFormat.{SpsPictureFormat}
 
--- With MultiLayerExtSpsFlag: the index, where it isn't the layer's own of the VPS.
+-- with MultiLayerExtSpsFlag: the index, where it isn't the layer's own of the VPS
 unfoldable pub rep_format : Table SpsRepFormat
 rep_format = shaped
     (λ (update_rep_format_flag, sps_rep_format_idx). record {
@@ -22,12 +22,12 @@ rep_format = shaped
       update_rep_format_flag ← named "update_rep_format_flag" (u 1)
       named "sps_rep_format_idx" (when (is_set update_rep_format_flag) (u 8))
 
--- A width or height of 0 or over 16,384 (this project's profile).
+-- a width or height of 0 or over 16,384 (this project's profile)
 abbrev pub no_side : ℕ → Bool
 no_side n = nat_eq n 0 || over 16384 n
 
--- Without it: the format. Three colour planes coded apart break rule 34; a chroma format over 3, a width or height of 0 or
--- over 16,384 and a bit depth over 16 break the limit rule (this project's profile).
+-- without it: the format; three colour planes coded apart break rule 34; a chroma format over 3, a width or height of 0 or
+-- over 16,384 and a bit depth over 16 break the limit rule (this project's profile)
 unfoldable pub picture_format : Table SpsPictureFormat
 picture_format = shaped
     (λ (chroma_format_idc, (separate_colour_plane_flag, (pic_width_in_luma_samples, (pic_height_in_luma_samples, (conformance_window_flag, (conf_win_left_offset, (conf_win_right_offset, (conf_win_top_offset, (conf_win_bottom_offset, (bit_depth_luma_minus8, bit_depth_chroma_minus8)))))))))). record {

@@ -7,17 +7,17 @@ use Rattle.mv_rules.specs.declared.rule.Rule.TheVariants.{SpsLimit}
 use Rattle.mv_common.specs.ProfileTier.{ProfileTierValue, profile_tier_level}
 
 -- MultiLayerExtSpsFlag (F.7.4.3.2.1): the fields that the VPS has too are left out, which the first 3-bit field of a layer
--- above 0 says by 7.
+-- above 0 says by 7
 abbrev pub is_ext : ℕ → ℕ → Bool
 is_ext layer sps_max_sub_layers_minus1 = nat_lt 0 layer && nat_eq sps_max_sub_layers_minus1 7
 
--- How many sub-layers stand below the highest: the field says it, and where the fields are left out the VPS, by its
--- vps_max_sub_layers_minus1.
+-- how many sub-layers stand below the highest: the field says it, and where the fields are left out the VPS, by its
+-- vps_max_sub_layers_minus1
 abbrev pub subs_of : ℕ → ℕ → ℕ → ℕ
 subs_of layer vps_sub_layers sps_max_sub_layers_minus1 =
     if is_ext layer sps_max_sub_layers_minus1 then vps_sub_layers else sps_max_sub_layers_minus1
 
--- sps_max_sub_layers_minus1 of a layer.
+-- sps_max_sub_layers_minus1 of a layer
 abbrev pub max_sub_layers_minus1 : ℕ → Table ℕ
 max_sub_layers_minus1 layer = u 3 ! SpsLimit ∶ (λ n. nat_eq layer 0 && nat_eq n 7)
 

@@ -9,7 +9,7 @@ use Rattle.mv_short_sets.specs.ShortSetValue.{ShortSetValue}
 use Rattle.mv_short_sets.specs.Deltas.{deltas_of_each}
 use Rattle.mv_short_sets.specs.ShortSet.{st_ref_pic_set}
 
--- Set i of num, behind the sets before it.
+-- set i of num, behind the sets before it
 unfoldable pub short_set : ℕ → ℕ → List ShortSetValue → Table ShortSetValue
 short_set num i before = st_ref_pic_set i num (deltas_of_each before) under SpsLimit
 
@@ -17,7 +17,7 @@ short_set num i before = st_ref_pic_set i num (deltas_of_each before) under SpsL
 unfoldable pub short_sets : ℕ → Table (List ShortSetValue)
 short_sets num = items_after 0 num (short_set num)
 
--- A candidate: the lsb_bits low bits of its picture order count, and whether it is used.
+-- a candidate: the lsb_bits low bits of its picture order count, and whether it is used
 unfoldable pub candidate : ℕ → Table (ℕ × ℕ)
 candidate lsb_bits = do
   named "lt_ref_pic_poc_lsb_sps" (u lsb_bits)
@@ -27,7 +27,7 @@ candidate lsb_bits = do
 unfoldable pub candidates : ℕ → ℕ → Table (List ℕ × List ℕ)
 candidates lsb_bits n = columns 0 n (each (candidate lsb_bits))
 
--- The fields in coded order; the lists are empty where no candidates are coded.
+-- the fields in coded order; the lists are empty where no candidates are coded
 pub record SpsReferencesValue : Type 0 where
   pub num_short_term_ref_pic_sets : ℕ
   pub st_ref_pic_set : List ShortSetValue

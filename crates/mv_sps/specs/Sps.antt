@@ -11,7 +11,7 @@ use Rattle.mv_sps.specs.Coding.{SpsCodingValue, coding}
 use Rattle.mv_sps.specs.Usability.{SpsVuiValue, usability}
 use Rattle.mv_sps.specs.Extension.{extension}
 
--- The fields in coded order, in parts; what is not coded is None.
+-- the fields in coded order, in parts; what is not coded is None
 pub record SpsValue : Type 0 where
   pub opening : SpsOpeningValue
   pub pictures : SpsPicturesValue
@@ -19,17 +19,17 @@ pub record SpsValue : Type 0 where
   pub vui : SpsVuiValue
   pub extension : SpsExtension
 
--- The usability information and the extensions.
+-- the usability information and the extensions
 unfoldable pub ending : ℕ → Table (SpsVuiValue ⊗ SpsExtension)
 ending subs = do
   usability subs
   extension
 
--- The parts behind the opening, in coded order.
+-- the parts behind the opening, in coded order
 abbrev pub BehindOpening : Type 0
 BehindOpening = SpsPicturesValue ⊗ SpsCodingValue ⊗ SpsVuiValue ⊗ SpsExtension
 
--- The low bits of a picture order count are log2_max_pic_order_cnt_lsb_minus4 + 4.
+-- the low bits of a picture order count are log2_max_pic_order_cnt_lsb_minus4 + 4
 unfoldable pub behind_opening : ℕ → ℕ → SpsOpeningValue → Table BehindOpening
 behind_opening layer vps_sub_layers sps_opening =
     let ext : Bool = is_ext layer sps_opening.sps_max_sub_layers_minus1 in
@@ -38,7 +38,7 @@ behind_opening layer vps_sub_layers sps_opening =
       coding ext (sps_pictures.log2_max_pic_order_cnt_lsb_minus4 + 4)
       ending subs
 
--- A value's opening, and its parts behind that.
+-- a value's opening, and its parts behind that
 abbrev pub in_parts : SpsValue → SpsOpeningValue × BehindOpening
 in_parts v =
     v.opening
@@ -47,7 +47,7 @@ in_parts v =
     ▸ v.vui
     ▸ v.extension
 
--- The fields up to the tail, of a sequence parameter set of this layer, with the vps_max_sub_layers_minus1 of the VPS.
+-- the fields up to the tail, of a sequence parameter set of this layer, with the vps_max_sub_layers_minus1 of the VPS
 unfoldable pub sps_fields : ℕ → ℕ → Table SpsValue
 sps_fields layer vps_sub_layers = shaped
     (λ (opening, (pictures, (coding, (vui, extension)))). record {
@@ -63,11 +63,11 @@ sps_fields layer vps_sub_layers = shaped
       sps_opening ← opening layer vps_sub_layers
       behind_opening layer vps_sub_layers sps_opening
 
--- A tail stands behind the fields where sps_extension_4bits is above 0.
+-- a tail stands behind the fields where sps_extension_4bits is above 0
 abbrev pub has_tail : SpsValue → Bool
 has_tail v = over 0 (or_zero v.extension.sps_extension_4bits)
 
--- The payload: at most 65,536 bytes, or else the limit rule (this project's profile); the fields, the tail
--- (sps_extension_data_flag) and the trailing bits.
+-- the payload: at most 65,536 bytes, or else the limit rule (this project's profile); the fields, the tail
+-- (sps_extension_data_flag) and the trailing bits
 unfoldable pub sps_payload : ℕ → ℕ → Payload SpsValue
 sps_payload layer vps_sub_layers = record { fields = sps_fields layer vps_sub_layers; size_rule = SpsLimit; has_tail = has_tail }

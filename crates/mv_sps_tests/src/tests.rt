@@ -634,11 +634,11 @@ fn refusal(alloc: Global, layer: u8, payload: &[u8]) -> Option<Rule> {
 
 // A layer, the fields that are read, those of which the last breaks the rule, and the rule.
 static BROKEN: [(u8, &str, &str, Rule); 24] = [
-    // sps_max_sub_layers_minus1 7 in layer 0, and set 16
+    // sps_max_sub_layers_minus1 7 in layer 0, and set 16.
     (0, "", "0000 111", Rule::SpsLimit),
     (0, HEAD, "000010001", Rule::SpsLimit),
     (1, "0000 111 |", "000010001", Rule::SpsLimit),
-    // chroma_format_idc 4, planes apart, a width and a height of 0 and of 16,385 samples, 17 bits a sample
+    // chroma_format_idc 4, planes apart, a width and a height of 0 and of 16,385 samples, 17 bits a sample.
     (0, HEAD, "1 | 00101", Rule::SpsLimit),
     (0, HEAD, "1 | 00100 1", Rule::ColourPlanes),
     (0, HEAD, "1 | 1 1", Rule::SpsLimit),
@@ -657,7 +657,7 @@ static BROKEN: [(u8, &str, &str, Rule); 24] = [
     ),
     (0, HEAD, "1 | 1 010 010 0 0001010", Rule::SpsLimit),
     (0, HEAD, "1 | 1 010 010 0 1 0001010", Rule::SpsLimit),
-    // 17 bits of an order count, 17 pictures held and 16 reordered
+    // 17 bits of an order count, 17 pictures held and 16 reordered.
     (1, "0000 111 |", "1 | 0 | 0001110", Rule::SpsLimit),
     (
         0,
@@ -671,10 +671,10 @@ static BROKEN: [(u8, &str, &str, Rule); 24] = [
         "1 | 1 010 010 0 1 1 | 1 | 1 1 000010001",
         Rule::SpsLimit,
     ),
-    // coding blocks of 128 samples, the least of them and the greatest
+    // Coding blocks of 128 samples, the least of them and the greatest.
     (1, "0000 111 |", "1 | 0 | 1 | 00101", Rule::SpsLimit),
     (1, "0000 111 |", "1 | 0 | 1 | 00100 010", Rule::SpsLimit),
-    // 65 sets, a set of 17 pictures, 33 candidates
+    // 65 sets, a set of 17 pictures, 33 candidates.
     (
         1,
         LAYERED_FRONT,
@@ -693,9 +693,9 @@ static BROKEN: [(u8, &str, &str, Rule); 24] = [
         "0 | 0 0 0 | 1 1 00000100010",
         Rule::SpsLimit,
     ),
-    // a hypothetical decoder of 33 schedules
+    // A hypothetical decoder of 33 schedules.
     (1, LAYERED_FRONT, DECODER_OF_33, Rule::SpsLimit),
-    // the extensions that are refused, the first before the others
+    // The extensions that are refused, the first before the others.
     (
         1,
         LAYERED_FRONT,
@@ -714,7 +714,7 @@ static BROKEN: [(u8, &str, &str, Rule); 24] = [
         "0 | 0 0 0 | 1 0 | 0 0 | 0 | 1 | 0 1 0 1",
         Rule::SpsScc,
     ),
-    // bits that end in the usability information
+    // Bits that end in the usability information.
     (
         1,
         LAYERED_FRONT,

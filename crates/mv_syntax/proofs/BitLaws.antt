@@ -116,7 +116,7 @@ u_bits-ones (suc n) =
     ∙ ap (λ w. true ∷ u_bits n w) rest
     ∙ ap (λ b. true ∷ b) (u_bits-ones n)
 
--- A list of bits is shorter than n, or begins with the n bits of a number.
+-- a list of bits is shorter than n, or begins with the n bits of a number
 pub split_bits : (n : ℕ) (b : List Bool) → (length b < n) ⊎ ((v : ℕ) × (rest : List Bool) × (b ≡ u_bits n v ++ rest) × (v < 2 ^ n))
 unfolding u_bits
 split_bits zero b = inr (0, b, refl, lit< tt)
@@ -304,7 +304,7 @@ zeros_first (suc most) (false ∷ b) =
       | inr (inr (k, rest, e, h)) ↦ inr (inr (suc k, rest, ap (λ c. false ∷ c) e, omega arith))
     ]
 
--- A list of bits has no code at its front, or begins with the code of a value in range.
+-- a list of bits has no code at its front, or begins with the code of a value in range
 pub split_ue : (b : List Bool) → HasNoUe b ⊎ ((v : ℕ) × (rest : List Bool) × (b ≡ ue_bits v ++ rest) × (v < 2 ^ 32 - 1))
 split_ue b =
     elim (zeros_first 31 b) [
@@ -424,7 +424,7 @@ pub take_se-short : (b : List Bool) → HasNoUe b → take_se b ≡ Err short
 unfolding take_se
 take_se-short b h = ap (kept se_value) (take_ue-short b h)
 
--- A list of bits has no code at its front, or begins with the code of a value in range.
+-- a list of bits has no code at its front, or begins with the code of a value in range
 pub split_se : (b : List Bool) → HasNoUe b ⊎ ((x : ℤ) × (rest : List Bool) × (b ≡ se_bits x ++ rest) × (se_code x < 2 ^ 32 - 1))
 unfolding se_bits
 split_se b =

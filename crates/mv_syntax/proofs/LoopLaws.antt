@@ -246,7 +246,7 @@ unfolding items_numbered
 items_numbered-valid index t n vs i d h k =
     subst (λ m. Valid (t m) (get_or vs i d)) (length-take-le i vs (omega arith)) (each-valid (λ before v. Valid (t (length before)) v) [] vs i d h.1 k)
 
--- The lemmas for a loop that reads one list, or two: how it begins, a turn, and the end.
+-- the lemmas for a loop that reads one list, or two: how it begins, a turn, and the end
 pub ruleset item_steps = (items_begin, items_numbered_begin, items_turn, items_done, items_after_begin, items_after_turn, items_after_done)
 
 pub ruleset column_steps = (columns_begin, columns_turn, columns_done, columns_after_begin, columns_after_turn, columns_after_done)

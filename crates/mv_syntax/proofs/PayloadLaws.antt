@@ -259,5 +259,5 @@ payload_end_fault p b v rest fault h e end = rw (le-is size_limit (length b) h, 
 pub payload_put : {A : Type 0} (p : Payload A) (v : A × Option (List Bool)) → payload_bits p v ≡ put p.fields v.0 [] ++ end_bits (length (put p.fields v.0 [])) v.1
 payload_put p v = rw (put-nil p.fields v.0) refl
 
--- The lemmas for a call that reads a whole payload.
+-- the lemmas for a call that reads a whole payload
 pub ruleset payload_steps = (payload_over, payload_fault, payload_end, payload_end_fault)

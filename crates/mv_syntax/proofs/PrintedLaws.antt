@@ -40,11 +40,11 @@ printed-bits (padded pad t) name v b = rw (printed-bits t name v b) refl
 printed-bits (shaped to from same t) name v b = printed-bits t name (from v) b
 
 -- ---- lines
--- A line behind a text.
+-- a line behind a text
 abbrev pub add_line : List ℕ → Line → List ℕ
 add_line text line = with_line (codes line.name) (brackets line.indexes) line.value text
 
--- The steps over a list of lines.
+-- the steps over a list of lines
 abbrev pub each_line : {Out : Type 0} → (Out → Line → Out) → List Line → Out → Out
 each_line step [] out = out
 each_line step (line ∷ more) out = each_line step more (step out line)

@@ -172,7 +172,7 @@ print_columns_after_step t first n name ones others i j d e out so_far h k same 
     let turn = print_columns_after_turn t first n name ones others i j d e out h k same in
     rw (turn, ← so_far, end, body, start.1, start.0) refl
 
--- The lemmas for a loop that prints one list, or two.
+-- the lemmas for a loop that prints one list, or two
 pub ruleset print_item_steps = (print_items_begin, print_items_step, print_items_done, print_items_after_begin, print_items_after_turn, print_items_after_done, items-length, items-valid, items_after-length, items_after-valid)
 
 pub ruleset print_numbered_steps = (print_numbered_begin, print_numbered_turn, print_numbered_done, items_numbered-length, items_numbered-valid)

@@ -385,7 +385,7 @@ pub put-nil : {A : Type 0} (t : Table A) (v : A) → put t v [] ≡ bits_of t v
 put-nil t v = put-is t v []
 
 -- ---- the three answers
--- An answer from a list of bits: a value exactly where one reads, a rule exactly where it cuts.
+-- an answer from a list of bits: a value exactly where one reads, a rule exactly where it cuts
 pub record Answered {V : Type 0} (answer : Result V Fault) (reads : V → Type 0) (cut : ℕ → Type 0) : Type 0 where
   pub value : (v : V) → reads v → answer ≡ Ok v
   pub is_value : (v : V) → answer ≡ Ok v → reads v

@@ -4,13 +4,13 @@ use Rattle.std.specs.Fmt.{signed_decimal}
 use Prim.Native.String.{String}
 use Rattle.mv_syntax.specs.Table.{Table, u, ue, se, named, refused, checked, ◌>>=◌, when, repeat, by_rule, padded, shaped, in_turn}
 
--- A coded field: its name, the indexes of all loops around it from the outermost, and its value.
+-- a coded field: its name, the indexes of all loops around it from the outermost, and its value
 pub record Line : Type 0 where
   pub name : String
   pub indexes : List ℕ
   pub value : ℤ
 
--- The lines of a value in a table that stands under a name and in turns with these indexes.
+-- the lines of a value in a table that stands under a name and in turns with these indexes
 abbrev pub lines_in : {A : Type 0} → Table A → String → List ℕ → A → List Line
 lines_in (u n) name at v = record { name = name; indexes = at; value = pos v } ∷ []
 lines_in ue name at v = record { name = name; indexes = at; value = pos v } ∷ []
@@ -26,11 +26,11 @@ lines_in (by_rule r t) name at v = lines_in t name at v
 lines_in (padded pad t) name at v = lines_in t name at v
 lines_in (shaped to from same t) name at v = lines_in t name at (from v)
 
--- The lines of a value of a whole table.
+-- the lines of a value of a whole table
 abbrev pub lines : {A : Type 0} → Table A → A → List Line
 lines t v = lines_in t "" [] v
 
--- The brackets of some indexes, the outermost first.
+-- the brackets of some indexes, the outermost first
 abbrev pub bracket : ℕ → List ℕ
 bracket index = codes "[" ++ decimal index ++ codes "]"
 
@@ -38,7 +38,7 @@ abbrev pub brackets : List ℕ → List ℕ
 brackets [] = []
 brackets (index ∷ indexes) = bracket index ++ brackets indexes
 
--- A line as text: two blanks, the field's name, the brackets of all loops around it, `=`, its number and a newline.
+-- a line as text: two blanks, the field's name, the brackets of all loops around it, `=`, its number and a newline
 abbrev pub line_text : Line → List ℕ
 line_text line = codes "  " ++ (codes line.name ++ (brackets line.indexes ++ (codes "=" ++ (signed_decimal line.value ++ codes "\n"))))
 

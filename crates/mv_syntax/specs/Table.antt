@@ -5,7 +5,7 @@ use Prim.Native.String.{String}
 use Rattle.mv_syntax.specs.Bits.{u_bits, ue_bits, se_code, se_bits}
 
 infixl 10 ◌>>=◌
--- A table of coded fields whose value is an A.
+-- a table of coded fields whose value is an A
 pub data Table : Type 0 → Type 1 where
   -- u(n): n bits, most significant first; with n = 0 no bits and the value 0
   u : ℕ → Table ℕ
@@ -31,17 +31,17 @@ pub data Table : Type 0 → Type 1 where
   -- the same fields, with the value in another form
   shaped : {A B : Type 0} → (to : A → B) (from : B → A) → ((x : A) → from (to x) ≡ x) → Table A → Table B
 
--- The items of a list in turn, each asked with the items before it.
+-- the items of a list in turn, each asked with the items before it
 abbrev pub in_turn : {A B : Type 0} → (List A → A → List B) → List A → List A → List B
 in_turn one before [] = []
 in_turn one before (v ∷ vs) = one before v ++ in_turn one (before ++ v ∷ []) vs
 
--- Each item of a list has the property, which may ask for the items before it.
+-- each item of a list has the property, which may ask for the items before it
 abbrev pub EachValid : {A : Type 0} → (List A → A → Type 0) → List A → List A → Type 0
 EachValid one before [] = Unit {0}
 EachValid one before (v ∷ vs) = one before v × EachValid one (before ++ v ∷ []) vs
 
--- What the table prints for a value: each coded field in order.
+-- what the table prints for a value: each coded field in order
 abbrev pub bits_of : {A : Type 0} → Table A → A → List Bool
 bits_of (u n) v = u_bits n v
 bits_of ue v = ue_bits v
@@ -57,7 +57,7 @@ bits_of (by_rule r t) v = bits_of t v
 bits_of (padded pad t) v = bits_of t v ++ pad v (length (bits_of t v))
 bits_of (shaped to from same t) v = bits_of t (from v)
 
--- The values that obey every condition of the table.
+-- the values that obey every condition of the table
 abbrev pub Valid : {A : Type 0} → Table A → A → Type 0
 Valid (u n) v = v < 2 ^ n
 Valid ue v = v < 2 ^ 32 - 1
@@ -73,18 +73,18 @@ Valid (by_rule r t) v = Valid t v
 Valid (padded pad t) v = Valid t v
 Valid (shaped to from same t) v = Valid t (from v) × (to (from v) ≡ v)
 
--- A value reads at the head of b: it is valid, and b is what the table prints for it and the rest.
+-- a value reads at the head of b: it is valid, and b is what the table prints for it and the rest
 pub record Reads {A : Type 0} (t : Table A) (b : List Bool) (v : A) (rest : List Bool) : Type 0 where
   pub valid : Valid t v
   pub bits : b ≡ bits_of t v ++ rest
 
--- A loop is cut in one of its turns, the turns before being read.
+-- a loop is cut in one of its turns, the turns before being read
 abbrev pub EachCut : {A : Type 0} → (List A → List Bool → Type 0) → (List A → List Bool → A → List Bool → Type 0) → ℕ → List A → List Bool → Type 0
 EachCut cut reads zero before b = ⊥
 EachCut {A = A} cut reads (suc n) before b =
     cut before b ⊎ ((v : A) × (rest : List Bool) × reads before b v rest × EachCut cut reads n (before ++ v ∷ []) rest)
 
--- Rule r cuts b: the fields up to one are read, and that field is the first that breaks a rule, r.
+-- rule r cuts b: the fields up to one are read, and that field is the first that breaks a rule, r
 abbrev pub Cut : {A : Type 0} → Table A → List Bool → ℕ → Type 0
 Cut (u n) b r = ⊥
 Cut ue b r = ⊥

@@ -5,32 +5,32 @@ use Rattle.mv_syntax.specs.Table.{Table, refused, checked, ◌>>=◌, repeat, by
 use Rattle.mv_rules.specs.Rule.{rule_number}
 use Rattle.mv_rules.specs.declared.rule.Rule.{Rule}
 
--- `t ! r ∶ bad`: the field t, which breaks rule r where its value is bad.
+-- `t ! r ∶ bad`: the field t, which breaks rule r where its value is bad
 infixl 20 ◌!◌∶◌
 abbrev pub ◌!◌∶◌ : {A : Type 0} → Table A → Rule → (A → Bool) → Table A
 t ! r ∶ bad = refused (rule_number r) bad t
 
--- `t unless bad`: a field of a structure that several headers share, which is past its limit where its value is bad. Which rule
--- that breaks, the header says that holds the structure; until then it is counted as 0.
+-- `t unless bad`: a field of a structure that several headers share, which is past its limit where its value is bad; which rule
+-- that breaks, the header says that holds the structure; until then it is counted as 0
 infixl 20 ◌unless◌
 abbrev pub ◌unless◌ : {A : Type 0} → Table A → (A → Bool) → Table A
 t unless bad = refused 0 bad t
 
--- `t under r`: a shared structure in a header, whose limits break rule r there.
+-- `t under r`: a shared structure in a header, whose limits break rule r there
 infixl 20 ◌under◌
 abbrev pub ◌under◌ : {A : Type 0} → Table A → Rule → Table A
 t under r = by_rule (rule_number r) t
 
--- Rules tried at a point between two fields, each with whether it is broken, the least first.
+-- rules tried at a point between two fields, each with whether it is broken, the least first
 abbrev pub tried : {A : Type 0} → List (Rule × Bool) → Table A → Table A
 tried [] t = t
 tried (rule ∷ rules) t = checked (rule_number rule.0) rule.1 (tried rules t)
 
--- A value is over n, is n, or is not n.
+-- a value is over n, is n, or is not n
 abbrev pub over : ℕ → ℕ → Bool
 over n v = nat_lt n v
 
--- A value is not below n.
+-- a value is not below n
 abbrev pub at_least : ℕ → ℕ → Bool
 at_least n v = not (nat_lt v n)
 
@@ -40,61 +40,61 @@ is n v = nat_eq v n
 abbrev pub is_not : ℕ → ℕ → Bool
 is_not n v = not (nat_eq v n)
 
--- A flag, u(1), is set.
+-- a flag, u(1), is set
 abbrev pub is_set : ℕ → Bool
 is_set flag = nat_eq flag 1
 
--- The value of a field, or the stated one where a condition leaves it out.
+-- the value of a field, or the stated one where a condition leaves it out
 infix 30 ◌otherwise◌
 abbrev pub ◌otherwise◌ : {A : Type 0} → Option A → A → A
 (Some v) otherwise stated = v
 None otherwise stated = stated
 
--- A field that a condition leaves out has the value 0 where no other is stated.
+-- a field that a condition leaves out has the value 0 where no other is stated
 abbrev pub or_zero : Option ℕ → ℕ
 or_zero o = o otherwise 0
 
--- A flag is coded and set.
+-- a flag is coded and set
 abbrev pub coded_set : Option ℕ → Bool
 coded_set o = is_set (or_zero o)
 
--- The last of some values that was coded, or the stated one: "absent: that of the one before".
+-- the last of some values that was coded, or the stated one: "absent: that of the one before"
 abbrev pub last_coded : {A : Type 0} → List (Option A) → A → A
 last_coded [] stated = stated
 last_coded (o ∷ os) stated = last_coded os (o otherwise stated)
 
--- Values in coded order: `a ▸ b ▸ c`.
+-- values in coded order: `a ▸ b ▸ c`
 infixr 5 ◌▸◌
 abbrev pub ◌▸◌ : {A B : Type 0} → A → B → A × B
 a ▸ b = (a, b)
 
--- The types of values in coded order: `A ⊗ B ⊗ C`.
+-- the types of values in coded order: `A ⊗ B ⊗ C`
 infixr 5 ◌⊗◌
 abbrev pub ◌⊗◌ : Type 0 → Type 0 → Type 0
 A ⊗ B = A × B
 
--- `for each`: n turns, numbered from 0. The body may ask for the items before.
+-- `for each`: n turns, numbered from 0; the body may ask for the items before
 abbrev pub for_each : {A : Type 0} → ℕ → (List A → Table A) → Table (List A)
 for_each n t = repeat (λ turn. turn) n t
 
--- `for i = a to n-1`: no turn where n is at most a. The body has i and the items before.
+-- `for i = a to n-1`: no turn where n is at most a; the body has i and the items before
 abbrev pub for_below : {A : Type 0} → ℕ → ℕ → (ℕ → List A → Table A) → Table (List A)
 for_below a n t = repeat (λ turn. a + turn) (n - a) (λ before. t (a + length before) before)
 
--- `for i = a to b`: both ends included, no turn where b is below a. The body has i and the items before. Where b is one less
--- than a number that may be 0, it is `for_below`.
+-- `for i = a to b`: both ends included, no turn where b is below a; the body has i and the items before; where b is one less
+-- than a number that may be 0, it is `for_below`
 abbrev pub for_range : {A : Type 0} → ℕ → ℕ → (ℕ → List A → Table A) → Table (List A)
 for_range a b t = repeat (λ turn. a + turn) (suc b - a) (λ before. t (a + length before) before)
 
--- Bits equal to x up to a byte's end, behind t where the test holds of its value.
+-- bits equal to x up to a byte's end, behind t where the test holds of its value
 abbrev pub aligned_where : {A : Type 0} → (A → Bool) → Bool → Table A → Table A
 aligned_where test x t = padded (λ v place. if test v then align_bits x place else []) t
 
--- A slice segment header: its fields, and behind them a one bit and zeros up to the byte's end (7.3.2.12, byte_alignment()).
+-- a slice segment header: its fields, and behind them a one bit and zeros up to the byte's end (7.3.2.12, byte_alignment())
 abbrev pub whole_bytes : {A : Type 0} → Table A → Table A
 whole_bytes t = padded (λ v place. trailing_bits place) t
 
--- A line whose value no later line asks for.
+-- a line whose value no later line asks for
 infixl 10 ◌>>◌
 abbrev pub ◌>>◌ : {A B : Type 0} → Table A → Table B → Table (A × B)
 t >> more = t >>= (λ _. more)

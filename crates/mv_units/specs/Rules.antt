@@ -8,12 +8,12 @@ use Rattle.mv_units.specs.Head.{head, forbidden_zero_bit, nal_unit_type, nuh_tem
 abbrev pub longest_unit : ℕ
 longest_unit = 16777216
 
--- Short: fewer bytes than a head has (7.3.1.2)
+-- short: fewer bytes than a head has (7.3.1.2)
 abbrev pub short_unit : List ℕ → Bool
 short_unit u = nat_lt (length u) 2
 
 -- whether a string begins with bytes that may stand nowhere in a unit (7.4.2): 00 00 00, 00 00 02, or
--- 00 00 03 and a byte above 03. The fourth of these, 00 00 01, begins the next unit.
+-- 00 00 03 and a byte above 03; the fourth of these, 00 00 01, begins the next unit
 abbrev pub above_three : List ℕ → Bool
 above_three [] = false
 above_three (d ∷ s) = nat_lt 3 d
@@ -27,11 +27,11 @@ unfoldable pub has_emulation : List ℕ → Bool
 has_emulation [] = false
 has_emulation (a ∷ s) = begins_emulation (a ∷ s) || has_emulation s
 
--- Emulation: such bytes stand in the first 16,777,216 bytes (7.4.2; the number is this project's profile)
+-- emulation: such bytes stand in the first 16,777,216 bytes (7.4.2; the number is this project's profile)
 abbrev pub emulation : List ℕ → Bool
 emulation u = has_emulation (take longest_unit u)
 
--- Long: more than 16,777,216 bytes (this project's profile)
+-- long: more than 16,777,216 bytes (this project's profile)
 abbrev pub long_unit : List ℕ → Bool
 long_unit u = nat_lt longest_unit (length u)
 
@@ -39,7 +39,7 @@ long_unit u = nat_lt longest_unit (length u)
 abbrev pub is_irap_type : ℕ → Bool
 is_irap_type kind = nat_le 16 kind && nat_le kind 23
 
--- Head: forbidden_zero_bit is 1, or nuh_temporal_id_plus1 is 0, or an IRAP type has TemporalId above 0 (7.4.2.2)
+-- head: forbidden_zero_bit is 1, or nuh_temporal_id_plus1 is 0, or an IRAP type has TemporalId above 0 (7.4.2.2)
 abbrev pub bad_head : List ℕ → Bool
 bad_head u = (forbidden_zero_bit u == 1) || (nuh_temporal_id_plus1 u == 0)
     || (is_irap_type (nal_unit_type u) && nat_lt 0 (temporal_id u))

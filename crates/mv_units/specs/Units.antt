@@ -21,7 +21,7 @@ lead a [] = []
 lead a (p ∷ ps) = (a ∷ p) ∷ ps
 
 -- the pieces of a string (Annex B): what stands before its first start code prefix, and what stands
--- behind each one up to the next or the end. There is one piece more than there are prefixes.
+-- behind each one up to the next or the end; there is one piece more than there are prefixes
 unfoldable pub pieces : List ℕ → List (List ℕ)
 pieces (a ∷ b ∷ c ∷ s) = elim (is_code a b c) [ true ↦ [] ∷ pieces s | false ↦ lead a (pieces (b ∷ c ∷ s)) ]
 pieces s = s ∷ []
@@ -33,7 +33,7 @@ joined (p ∷ []) = p
 joined (p ∷ q ∷ ps) = p ++ (start_code ++ joined (q ∷ ps))
 
 -- ps is a split of s at start code prefixes: one piece or more, no prefix within a piece, and joined by
--- prefixes they give s. By law this holds of the pieces of s, and of no other list.
+-- prefixes they give s; by law this holds of the pieces of s, and of no other list
 pub record IsSplit (s : List ℕ) (ps : List (List ℕ)) : Type 0 where
   pub some : 0 < length ps
   pub clean : All (λ p. has_code p ≡ false) ps

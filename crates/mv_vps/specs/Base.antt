@@ -45,11 +45,11 @@ base = shaped
       when (is_set vps_timing_info_present_flag) (timing vps_opening.vps_max_sub_layers_minus1)
       named "vps_extension_flag" (u 1)
 
--- The same, with the one bits up to a byte's end that stand before an extension (vps_extension_alignment_bit_equal_to_one).
+-- the same, with the one bits up to a byte's end that stand before an extension (vps_extension_alignment_bit_equal_to_one)
 unfoldable pub aligned_base : Table VpsBaseValue
 aligned_base = aligned_where (λ v. is_set v.vps_extension_flag) true base
 
--- What the extension takes from these fields.
+-- what the extension takes from these fields
 abbrev pub args_of : VpsBaseValue → VpsArgsValue
 args_of v = record {
   vps_max_layers_minus1 = v.opening.vps_max_layers_minus1;

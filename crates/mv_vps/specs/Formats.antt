@@ -7,15 +7,15 @@ use Rattle.mv_vpsext.specs.declared.rep_format.ChromaAndDepth.{ChromaAndDepth}
 use Rattle.mv_vpsext.specs.declared.rep_format.RepFormat.{RepFormat}
 use Rattle.mv_vpsext.specs.VpsExt.{VpsExtValue}
 
--- A chroma format and bit depths for where none were coded, which no valid list has.
+-- a chroma format and bit depths for where none were coded, which no valid list has
 abbrev pub no_chroma : ChromaAndDepth
 no_chroma = record { chroma_format_vps_idc = 0; separate_colour_plane_vps_flag = None; bit_depth_vps_luma_minus8 = 0; bit_depth_vps_chroma_minus8 = 0 }
 
--- The chroma format and the bit depths behind some formats: those that were coded last.
+-- the chroma format and the bit depths behind some formats: those that were coded last
 abbrev pub chroma_behind : List RepFormat → ChromaAndDepth
 chroma_behind formats = last_coded (map (λ (f : RepFormat). f.chroma_and_depth) formats) no_chroma
 
--- A format with its own size in luma samples, and with this chroma format and these bit depths.
+-- a format with its own size in luma samples, and with this chroma format and these bit depths
 abbrev pub format_with : ChromaAndDepth → RepFormat → Format
 format_with chroma f = record {
   width = f.pic_width_vps_in_luma_samples;
@@ -25,11 +25,11 @@ format_with chroma f = record {
   chroma_depth = 8 + chroma.bit_depth_vps_chroma_minus8;
 }
 
--- The format of index k, if there is one: chroma format and bit depths that it doesn't code are those of the format before.
+-- the format of index k, if there is one: chroma format and bit depths that it doesn't code are those of the format before
 abbrev pub format_at : List RepFormat → ℕ → Option Format
 format_at formats k = option_map (format_with (chroma_behind (take (k + 1) formats))) (slice_get formats k)
 
--- Without an extension there is none.
+-- without an extension there is none
 abbrev pub rep_formats_of : Option VpsExtValue → List RepFormat
 rep_formats_of None = []
 rep_formats_of (Some ext) = ext.formats.rep_formats

@@ -6,7 +6,7 @@ use Rattle.mv_syntax.specs.Words.{◌▸◌, ◌!◌∶◌, over, is}
 use Rattle.mv_rules.specs.declared.rule.Rule.TheVariants.{VpsLimit}
 use Rattle.mv_vpsext.specs.Args.{layer_sets}
 
--- The greatest nuh_layer_id in a layer set, and the flags of the layer sets from 1 on.
+-- the greatest nuh_layer_id in a layer set, and the flags of the layer sets from 1 on
 pub record VpsLayerSetsValue : Type 0 where
   pub vps_max_layer_id : ℕ
   pub vps_num_layer_sets_minus1 : ℕ

@@ -9,13 +9,13 @@ use Rattle.mv_rules.specs.declared.rule.Rule.TheVariants.{VpsLimit}
 use Rattle.mv_common.specs.declared.hrd_common.HrdFlags.{HrdFlags}
 use Rattle.mv_common.specs.Hrd.{HrdValue, hrd_parameters, in_force}
 
--- The hrd_parameters of a layer set.
+-- the hrd_parameters of a layer set
 pub record VpsHrdValue : Type 0 where
   pub hrd_layer_set_idx : ℕ
   pub cprms_present_flag : Option ℕ
   pub hrd_parameters : HrdValue
 
--- hrd_parameters i, where these flags of the first group are in force before it. cprms_present_flag is 1 where it is left out.
+-- hrd_parameters i, where these flags of the first group are in force before it. cprms_present_flag is 1 where it is left out
 unfoldable pub vps_hrd : ℕ → HrdFlags → ℕ → Table VpsHrdValue
 vps_hrd vps_max_sub_layers_minus1 before i = shaped
     (λ (hrd_layer_set_idx, (cprms_present_flag, hrd_parameters)). record {
@@ -33,15 +33,15 @@ vps_hrd vps_max_sub_layers_minus1 before i = shaped
       cprms_present_flag ← named "cprms_present_flag" (when (over 0 i) (u 1))
       hrd_parameters (is_set (cprms_present_flag otherwise 1)) vps_max_sub_layers_minus1 before under VpsLimit
 
--- No first group was coded yet.
+-- no first group was coded yet
 abbrev pub no_flags : HrdFlags
 no_flags = record { nal = false; vcl = false; sub_pic = false }
 
--- The flags in force behind some hrd_parameters: those of the last first group that was coded.
+-- the flags in force behind some hrd_parameters: those of the last first group that was coded
 abbrev pub flags_behind : List VpsHrdValue → HrdFlags
 flags_behind earlier = fold (λ flags (hrd : VpsHrdValue). in_force hrd.hrd_parameters.common flags) no_flags earlier
 
--- hrd_parameters i behind those before it, from which it takes the first group where it has none of its own.
+-- hrd_parameters i behind those before it, from which it takes the first group where it has none of its own
 unfoldable pub next_hrd : ℕ → ℕ → List VpsHrdValue → Table VpsHrdValue
 next_hrd vps_max_sub_layers_minus1 i earlier = vps_hrd vps_max_sub_layers_minus1 (flags_behind earlier) i
 
@@ -49,7 +49,7 @@ next_hrd vps_max_sub_layers_minus1 i earlier = vps_hrd vps_max_sub_layers_minus1
 unfoldable pub vps_hrds : ℕ → ℕ → Table (List VpsHrdValue)
 vps_hrds vps_max_sub_layers_minus1 vps_num_hrd_parameters = items_after 0 vps_num_hrd_parameters (next_hrd vps_max_sub_layers_minus1)
 
--- Coded where vps_timing_info_present_flag is 1.
+-- coded where vps_timing_info_present_flag is 1
 pub record VpsTimingValue : Type 0 where
   pub vps_num_units_in_tick : ℕ
   pub vps_time_scale : ℕ

@@ -10,23 +10,23 @@ use Rattle.mv_layers.specs.Derived.{DerivedValue}
 use Rattle.mv_vpsext.specs.Derived.{derived}
 use Rattle.mv_vps.specs.Base.{VpsBaseValue, aligned_base, args_of}
 
--- The fields in coded order, in parts; a part that is not coded is None.
+-- the fields in coded order, in parts; a part that is not coded is None
 pub record VpsValue : Type 0 where
   pub base : VpsBaseValue
   pub extension : Option VpsExtValue
   pub vps_extension2_flag : Option ℕ
 
--- There is an extension, and it has a VUI, which is left unread.
+-- there is an extension, and it has a VUI, which is left unread
 abbrev pub has_vui : Option VpsExtValue → Bool
 has_vui None = false
 has_vui (Some ext) = is_set ext.ending.vps_vui_present_flag
 
--- vps_extension2_flag is coded behind an extension that has no VUI.
+-- vps_extension2_flag is coded behind an extension that has no VUI
 abbrev pub has_extension2_flag : Option VpsExtValue → Bool
 has_extension2_flag None = false
 has_extension2_flag (Some ext) = not (is_set ext.ending.vps_vui_present_flag)
 
--- The fields up to the tail.
+-- the fields up to the tail
 unfoldable pub vps_fields : Table VpsValue
 vps_fields = shaped
     (λ (base, (extension, vps_extension2_flag)). record {
@@ -44,33 +44,33 @@ vps_fields = shaped
       extension ← when (is_set vps_base.vps_extension_flag) (vps_extension (args_of vps_base))
       named "vps_extension2_flag" (when (has_extension2_flag extension) (u 1))
 
--- A tail stands behind the fields where there is a VUI or vps_extension2_flag is 1.
+-- a tail stands behind the fields where there is a VUI or vps_extension2_flag is 1
 abbrev pub has_tail : VpsValue → Bool
 has_tail v = has_vui v.extension || coded_set v.vps_extension2_flag
 
--- The payload: at most 65,536 bytes, or else the limit rule (this project's profile); the fields, the tail (the VUI, or
--- vps_extension_data_flag) and the trailing bits.
+-- the payload: at most 65,536 bytes, or else the limit rule (this project's profile); the fields, the tail (the VUI, or
+-- vps_extension_data_flag) and the trailing bits
 abbrev pub vps : Payload VpsValue
 vps = record { fields = vps_fields; size_rule = VpsLimit; has_tail = has_tail }
 
--- Without an extension there is layer 0 alone, and one output layer set, which has it as its output.
+-- without an extension there is layer 0 alone, and one output layer set, which has it as its output
 abbrev pub layer_0_alone : DerivedValue
 layer_0_alone = record {
   layers = record { layer = 0; view_order = 0; view_id = 0; directs = []; closure = 0 ∷ [] } ∷ [];
   sets = record { layers = 0 ∷ []; outputs = 0 ∷ []; necessary = 0 ∷ []; reorder = None } ∷ [];
 }
 
--- The layers and output layer sets that a video parameter set describes (F.7.4.3.1.1).
+-- the layers and output layer sets that a video parameter set describes (F.7.4.3.1.1)
 abbrev pub described : VpsArgsValue → Option VpsExtValue → DerivedValue
 described args None = layer_0_alone
 described args (Some ext) = derived args ext
 
--- A video parameter set: what is coded, its fields and the tail, and what is derived.
+-- a video parameter set: what is coded, its fields and the tail, and what is derived
 pub record WholeVps : Type 0 where
   pub coded : VpsValue × Option (List Bool)
   pub derived : DerivedValue
 
--- It is valid: what is coded is a payload, and what is derived follows from the fields.
+-- it is valid: what is coded is a payload, and what is derived follows from the fields
 pub record ValidVps (v : WholeVps) : Type 0 where
   pub payload : ValidPayload vps v.coded
   pub derived : v.derived ≡ described (args_of v.coded.0.base) v.coded.0.extension

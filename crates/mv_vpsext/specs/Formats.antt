@@ -9,11 +9,11 @@ use Rattle.mv_vpsext.specs.declared.rep_format.ConformanceWindow.{ConformanceWin
 use Rattle.mv_vpsext.specs.declared.rep_format.RepFormat.{RepFormat}
 use Rattle.mv_fields.specs.Widths.{clog2}
 
--- A width or height in luma samples is 1 to 16,384, or else breaks the limit rule, 26 (this project's profile).
+-- a width or height in luma samples is 1 to 16,384, or else breaks the limit rule, 26 (this project's profile)
 abbrev pub no_side : ℕ → Bool
 no_side samples = nat_eq samples 0 || over 16384 samples
 
--- Coded where chroma_and_bit_depth_vps_present_flag is 1.
+-- coded where chroma_and_bit_depth_vps_present_flag is 1
 unfoldable pub chroma_and_depth : Table ChromaAndDepth
 chroma_and_depth = shaped
     (λ (chroma_format_vps_idc, (separate_colour_plane_vps_flag, (bit_depth_vps_luma_minus8, bit_depth_vps_chroma_minus8))). record {
@@ -34,7 +34,7 @@ chroma_and_depth = shaped
       named "bit_depth_vps_luma_minus8" (u 4 ! VpsLimit ∶ over 8)
       named "bit_depth_vps_chroma_minus8" (u 4 ! VpsLimit ∶ over 8)
 
--- Coded where conformance_window_vps_flag is 1.
+-- coded where conformance_window_vps_flag is 1
 unfoldable pub conformance_window : Table ConformanceWindow
 conformance_window = shaped
     (λ (conf_win_vps_left_offset, (conf_win_vps_right_offset, (conf_win_vps_top_offset, conf_win_vps_bottom_offset))). record {
@@ -55,11 +55,11 @@ conformance_window = shaped
       named "conf_win_vps_top_offset" ue
       named "conf_win_vps_bottom_offset" ue
 
--- The flag is 0 in the first format, which has none before it (26).
+-- the flag is 0 in the first format, which has none before it (26)
 abbrev pub lacks_chroma : ℕ → ℕ → Bool
 lacks_chroma i flag = nat_eq i 0 && not (is_set flag)
 
--- rep_format (F.7.3.2.1.2), of index i.
+-- rep_format (F.7.3.2.1.2), of index i
 unfoldable pub rep_format : ℕ → Table RepFormat
 rep_format i = shaped
     (λ (pic_width_vps_in_luma_samples, (pic_height_vps_in_luma_samples, (chroma_and_bit_depth_vps_present_flag, (chroma_and_depth, (conformance_window_vps_flag, conformance_window))))). record {

@@ -17,7 +17,7 @@ use Rattle.mv_vpslayers.specs.DependencyTypes.{VpsDependencyTypesValue, types}
 use Rattle.mv_vpsext.specs.ExtEnding.{VpsExtEndingValue, ext_ending}
 use Rattle.mv_vpssets.specs.Sets.{all_sets, all_dpb_layers}
 
--- The fields in coded order, in parts.
+-- the fields in coded order, in parts
 pub record VpsExtValue : Type 0 where
   pub dimensions : VpsDimensionsValue
   pub dependencies : VpsDependenciesValue
@@ -29,12 +29,12 @@ pub record VpsExtValue : Type 0 where
   pub dependency_types : VpsDependencyTypesValue
   pub ending : VpsExtEndingValue
 
--- What the first two parts say of each layer.
+-- what the first two parts say of each layer
 abbrev pub ext_layers : VpsArgsValue → VpsDimensionsValue → VpsDependenciesValue → List LayerInfoValue
 ext_layers args scalability references =
     layers_described args.vps_max_layers_minus1 scalability.layers scalability.view_id_val references.direct_dependency_flag
 
--- dpb_size, of the output layer sets that the parts before it give.
+-- dpb_size, of the output layer sets that the parts before it give
 unfoldable pub dpb_sizes : VpsArgsValue → List LayerInfoValue → VpsDependenciesValue → List OlsLayers → Table (List DpbSetValue)
 dpb_sizes args infos references sets = dpb_size (all_dpb_layers infos args.vps_max_sub_layers_minus1 references.sub_layers_vps_max_minus1 sets)
 

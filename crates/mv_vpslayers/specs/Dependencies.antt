@@ -18,7 +18,7 @@ layer_dependencies i = named "direct_dependency_flag" (us 0 i 1)
 unfoldable pub dependency_flags : ℕ → Table (List (List ℕ))
 dependency_flags vps_max_layers_minus1 = items 1 vps_max_layers_minus1 layer_dependencies
 
--- num_add_layer_sets: the layer sets are tried before it (21 to 23), and none is added (AddedLayerSets, 19).
+-- num_add_layer_sets: the layer sets are tried before it (21 to 23), and none is added (AddedLayerSets, 19)
 unfoldable pub added_layer_sets : List LayerInfoValue → List (List ℕ) → Table (Option ℕ)
 added_layer_sets infos sets = tried
     ((LayerSetBase, list_any lacks_base sets)
@@ -51,7 +51,7 @@ pub record VpsDependenciesValue : Type 0 where
   pub max_tid_il_ref_pics_plus1 : Option (List (List (Option ℕ)))
   pub default_ref_layers_active_flag : ℕ
 
--- The layer sets are those from 1 on.
+-- the layer sets are those from 1 on
 unfoldable pub dependencies : ℕ → VpsDimensionsValue → List (List ℕ) → Table VpsDependenciesValue
 dependencies vps_max_layers_minus1 scalability sets = shaped
     (λ (direct_dependency_flag, (num_add_layer_sets, (vps_sub_layers_max_minus1_present_flag, (sub_layers_vps_max_minus1, (max_tid_ref_present_flag, (max_tid_il_ref_pics_plus1, default_ref_layers_active_flag)))))). record {

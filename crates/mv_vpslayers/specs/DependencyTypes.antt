@@ -6,7 +6,7 @@ use Rattle.mv_syntax.specs.Loops.{items}
 use Rattle.mv_rules.specs.declared.rule.Rule.TheVariants.{DependencyType, VpsLimit}
 use Rattle.mv_layers.specs.References.{depends}
 
--- A type of reference is at most 2, or else breaks DependencyType (25). for i = 1 to vps_max_layers_minus1, for j = 0 to i-1,
+-- a type of reference is at most 2, or else breaks DependencyType (25). for i = 1 to vps_max_layers_minus1, for j = 0 to i-1,
 -- where layer i refers directly to layer j
 unfoldable pub dependency_type : ℕ → List (List ℕ) → ℕ → ℕ → Table (Option ℕ)
 dependency_type width flags i j = named "direct_dependency_type" (when (depends flags i j) (u width ! DependencyType ∶ over 2))

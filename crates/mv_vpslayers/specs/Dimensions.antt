@@ -10,12 +10,12 @@ use Rattle.mv_common.specs.ProfileTier.{ProfileTierValue, profile_tier_level}
 use Rattle.mv_vpslayers.specs.declared.dimensions.VpsLayer.{VpsLayer}
 use Rattle.mv_vpslayers.specs.Layers.{nuh_layer_id}
 
--- The rule that scalability_mask_flag[i] can break (this project's profile).
+-- the rule that scalability_mask_flag[i] can break (this project's profile)
 abbrev pub mask_rule : ℕ → Rule
 mask_rule i =
     if nat_eq i 0 then Depth else (if nat_eq i 1 then NoViewDimension else (if nat_eq i 2 then Spatial else (if nat_eq i 3 then Auxiliary else ReservedDimension)))
 
--- scalability_mask_flag[i] breaks it: views, of index 1, have to be there with more than one layer, and no other dimension.
+-- scalability_mask_flag[i] breaks it: views, of index 1, have to be there with more than one layer, and no other dimension
 abbrev pub mask_breaks : ℕ → ℕ → ℕ → Bool
 mask_breaks vps_max_layers_minus1 i flag = if nat_eq i 1 then over 0 vps_max_layers_minus1 && not (is_set flag) else is_set flag
 
@@ -26,15 +26,15 @@ mask_flag vps_max_layers_minus1 i = named "scalability_mask_flag" (u 1 ! mask_ru
 unfoldable pub mask_flags : ℕ → Table (List ℕ)
 mask_flags vps_max_layers_minus1 = items 0 16 (mask_flag vps_max_layers_minus1)
 
--- A nuh_layer_id is 63 or not above that of the layer before: past its limit, 26 (this project's profile).
+-- a nuh_layer_id is 63 or not above that of the layer before: past its limit, 26 (this project's profile)
 abbrev pub no_layer_id : ℕ → ℕ → Bool
 no_layer_id before id = nat_eq id 63 || nat_le id before
 
--- A layer has the view order index of an earlier one, that of layer 0 being 0: SameView, 18 (this project's profile).
+-- a layer has the view order index of an earlier one, that of layer 0 being 0: SameView, 18 (this project's profile)
 abbrev pub same_view : List VpsLayer → ℕ → Bool
 same_view before id = nat_eq id 0 || list_any (λ (earlier : VpsLayer). nat_eq earlier.dimension_id id) before
 
--- The layer of index i, behind those from index 1 on.
+-- the layer of index i, behind those from index 1 on
 unfoldable pub vps_layer : Bool → ℕ → ℕ → List VpsLayer → Table VpsLayer
 vps_layer present dimension_id_len i before = shaped
     (λ (layer_id_in_nuh, dimension_id). record {
@@ -57,7 +57,7 @@ vps_layers vps_max_layers_minus1 present dimension_id_len = items_after 1 vps_ma
 unfoldable pub view_id_vals : ℕ → ℕ → Table (List ℕ)
 view_id_vals vps_max_layers_minus1 view_id_len = named "view_id_val" (us 0 (vps_max_layers_minus1 + 1) view_id_len)
 
--- View identifiers are coded, and a view order index has none: past its limit, 26 (this project's profile).
+-- view identifiers are coded, and a view order index has none: past its limit, 26 (this project's profile)
 abbrev pub lacks_view_id : ℕ → List VpsLayer → ℕ → Bool
 lacks_view_id vps_max_layers_minus1 layers view_id_len =
     over 0 view_id_len && list_any (λ (layer : VpsLayer). over vps_max_layers_minus1 layer.dimension_id) layers

@@ -6,21 +6,21 @@ use Rattle.mv_syntax.specs.Words.{◌otherwise◌}
 use Rattle.mv_layers.specs.LayerInfos.{LayerInfoValue, CodedLayers, layer_infos}
 use Rattle.mv_vpslayers.specs.declared.dimensions.VpsLayer.{VpsLayer}
 
--- A layer whose nuh_layer_id isn't coded, and whose view order index is 0.
+-- a layer whose nuh_layer_id isn't coded, and whose view order index is 0
 abbrev pub plain_layer : VpsLayer
 plain_layer = record { layer_id_in_nuh = None; dimension_id = 0 }
 
--- layer_id_in_nuh[i]: of layer 0 it is 0, and where it isn't coded it is i.
+-- layer_id_in_nuh[i]: of layer 0 it is 0, and where it isn't coded it is i
 abbrev pub nuh_layer_id : List VpsLayer → ℕ → ℕ
 nuh_layer_id layers zero = 0
 nuh_layer_id layers (suc k) = (get_or layers k plain_layer).layer_id_in_nuh otherwise (suc k)
 
--- The view order index of the layer of index i: of layer 0 it is 0.
+-- the view order index of the layer of index i: of layer 0 it is 0
 abbrev pub view_order_index : List VpsLayer → ℕ → ℕ
 view_order_index layers zero = 0
 view_order_index layers (suc k) = (get_or layers k plain_layer).dimension_id
 
--- What is coded of vps_max_layers_minus1 + 1 layers.
+-- what is coded of vps_max_layers_minus1 + 1 layers
 abbrev pub coded_layers : ℕ → List VpsLayer → Option (List ℕ) → List (List ℕ) → CodedLayers
 coded_layers vps_max_layers_minus1 layers view_id_val direct_dependency_flag = record {
   layer_id_in_nuh = map (nuh_layer_id layers) (range_with_len 0 (vps_max_layers_minus1 + 1));
@@ -29,7 +29,7 @@ coded_layers vps_max_layers_minus1 layers view_id_val direct_dependency_flag = r
   direct_dependency_flag = direct_dependency_flag;
 }
 
--- The layers that it describes.
+-- the layers that it describes
 unfoldable pub layers_described : ℕ → List VpsLayer → Option (List ℕ) → List (List ℕ) → List LayerInfoValue
 layers_described vps_max_layers_minus1 layers view_id_val direct_dependency_flag =
     layer_infos (coded_layers vps_max_layers_minus1 layers view_id_val direct_dependency_flag)

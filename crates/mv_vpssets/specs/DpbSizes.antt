@@ -5,8 +5,8 @@ use Rattle.mv_syntax.specs.Words.{◌▸◌, ◌>>◌, ◌!◌∶◌, over, is_s
 use Rattle.mv_syntax.specs.Loops.{items}
 use Rattle.mv_rules.specs.declared.rule.Rule.TheVariants.{VpsLimit}
 
--- What dpb_size takes of an output layer set: whether each of its layers is necessary, and the greatest
--- sub_layers_vps_max_minus1 of its layers.
+-- what dpb_size takes of an output layer set: whether each of its layers is necessary, and the greatest
+-- sub_layers_vps_max_minus1 of its layers
 pub record DpbLayers : Type 0 where
   pub necessary : List Bool
   pub greatest : ℕ
@@ -47,7 +47,7 @@ pub record DpbSubLayerValue : Type 0 where
   pub sub_layer_dpb_info_present_flag : Option ℕ
   pub numbers : Option DpbNumbersValue
 
--- Sub-layer j: sub_layer_dpb_info_present_flag is 1 for the lowest, and 0 where else it isn't coded.
+-- sub-layer j: sub_layer_dpb_info_present_flag is 1 for the lowest, and 0 where else it isn't coded
 unfoldable pub dpb_sub_layer : List Bool → ℕ → ℕ → Table DpbSubLayerValue
 dpb_sub_layer necessary sub_layer_flag_info_present_flag j = shaped
     (λ (sub_layer_dpb_info_present_flag, numbers). record {

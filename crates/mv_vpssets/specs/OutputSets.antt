@@ -18,7 +18,7 @@ unfoldable pub profile_tier_level_idxs : ℕ → OlsLayers → Table (List (Opti
 profile_tier_level_idxs vps_num_profile_tier_level_minus1 set =
     items 0 (length set.layers) (profile_tier_level_idx vps_num_profile_tier_level_minus1 set)
 
--- alt_output_layer_flag, where the set has one output, which has direct reference layers; no alternative outputs (AltOutput, 20).
+-- alt_output_layer_flag, where the set has one output, which has direct reference layers; no alternative outputs (AltOutput, 20)
 unfoldable pub set_profiles : List LayerInfoValue → ℕ → OlsLayers → Table (List (Option ℕ) × Option ℕ)
 set_profiles infos vps_num_profile_tier_level_minus1 set = do
   profile_tier_level_idxs vps_num_profile_tier_level_minus1 set
@@ -30,7 +30,7 @@ pub record OutputLayerSetValue : Type 0 where
   pub profile_tier_level_idx : List (Option ℕ)
   pub alt_output_layer_flag : Option ℕ
 
--- Output layer set i. The layer set of one behind NumLayerSets is at most the last (26).
+-- output layer set i; the layer set of one behind NumLayerSets is at most the last (26)
 unfoldable pub output_layer_set : List LayerInfoValue → List (List ℕ) → ℕ → ℕ → ℕ → Table OutputLayerSetValue
 output_layer_set infos sets vps_num_profile_tier_level_minus1 idc i = shaped
     (λ (layer_set_idx_for_ols_minus1, (output_layer_flag, (profile_tier_level_idx, alt_output_layer_flag))). record {
@@ -62,11 +62,11 @@ pub record VpsOutputSetsValue : Type 0 where
   pub default_output_layer_idc : Option ℕ
   pub output_layer_sets : List OutputLayerSetValue
 
--- There are over 64 output layer sets with so many more than the layer sets: past the limit, 26 (this project's profile).
+-- there are over 64 output layer sets with so many more than the layer sets: past the limit, 26 (this project's profile)
 abbrev pub past_output_sets : ℕ → ℕ → Bool
 past_output_sets num_layer_sets num_add_olss = over 64 (num_layer_sets + num_add_olss)
 
--- default_output_layer_idc 3 is reserved: ReservedOutput, 24 (this project's profile).
+-- default_output_layer_idc 3 is reserved: ReservedOutput, 24 (this project's profile)
 unfoldable pub output_sets : List LayerInfoValue → List (List ℕ) → ℕ → Table VpsOutputSetsValue
 output_sets infos sets vps_num_profile_tier_level_minus1 = shaped
     (λ (num_add_olss, (default_output_layer_idc, output_layer_sets)). record {

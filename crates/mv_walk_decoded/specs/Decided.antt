@@ -36,9 +36,9 @@ use Rattle.mv_walk_decoded.specs.declared.decided.Decided.{Decided}
 abbrev pub base_for : Look → Fact → Option ℤ
 base_for l p = if nat_eq (layer p) 0 then None else within (base_count l p)
 
--- p is the next picture of a stream behind these units, and is decoded. It is told by its place, its sets, its context and its
--- header; what is kept of the layers stands for the units before it, unless it starts a sequence; and so does the order of output.
--- Where it has the count of its access unit, all units with it are steady
+-- p is the next picture of a stream behind these units, and is decoded; it is told by its place, its sets, its context and its
+-- header; what is kept of the layers stands for the units before it, unless it starts a sequence; and so does the order of output;
+-- where it has the count of its access unit, all units with it are steady
 pub record IsAsked {P : Type 0} (g : Given P) (past : List Judged) (p : Fact) : Type 0 where
   pub earlier : List Fact
   pub placed : Placed
@@ -75,8 +75,8 @@ abbrev pub layers_between : Look → Fact → (Judged → Bool) → List ℕ
 layers_between l p test = map (λ (r : Judged × Term). layer r.0.fact) (filter (λ (r : Judged × Term). test r.0) (inter_layer l p))
 
 -- what is decided of a picture that breaks no rule: its count; the pictures that stay held, which are those that its entries match;
--- its references, by each part and by their number; its lists; and whether it may be put out. Of the layers its own has counted
--- it, and the order of output stands for the units with it
+-- its references, by each part and by their number; its lists; and whether it may be put out; of the layers its own has counted it,
+-- and the order of output stands for the units with it
 pub record IsDecided {P : Type 0} (layers layers_after : List (LayerValue P)) (order : OrdersValue) (past : List Judged) (p : Fact) (v : Decided) : Type 0 where
   pub counts : count (look past p) p ≡ Some v.count
   pub keep : v.resolved.keep.items ≡ kept_of (set_for (look past p) p) (told (held (look past p) p))

@@ -72,7 +72,7 @@ lists_refuse sizes ctx full = option_and_then (list_rule (total sizes) ctx) full
 
 -- ---- Output order
 
--- Reorder of a picture that may be put out
+-- reorder of a picture that may be put out
 abbrev pub order_refuses : Bool → OrdersValue → ℕ → ℤ → Option Rule
 order_refuses put_out order layer count =
     if put_out then rule_of (late_refusal (late_set order.sets order.check layer count (length order.sets))) else None

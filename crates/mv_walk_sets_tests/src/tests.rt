@@ -83,7 +83,7 @@ fn pps_fault(alloc: Global, unit: &[u8]) -> Option<ReadFault> {
 
 #[test]
 fn roles_without_a_video_parameter_set(rt: HostRuntime) -> Result<(), Fail> {
-    // the type, the layer, and what the unit is: slices, the reserved types beside them, parameter sets, and the others
+    // The type, the layer, and what the unit is: slices, the reserved types beside them, parameter sets, and the others.
     let rows = [
         (9, 0, Err(Rule::NoVps)),
         (10, 0, Ok(Role::Passed)),
@@ -147,7 +147,7 @@ fn roles_and_layers_of_two_views(rt: HostRuntime) -> Result<(), Fail> {
     for (kind, layer, role) in rows {
         assert_eq!(rt; role_of(Some(&vps), head(kind, layer, 0)), Ok(role));
     }
-    // an output layer set, and whether it has layers 0, 1 and 2; set 2 isn't there
+    // An output layer set, and whether it has layers 0, 1 and 2; set 2 isn't there.
     let sets = [
         (0, true, false, false),
         (1, true, true, false),
@@ -170,7 +170,7 @@ fn roles_and_layers_of_two_views(rt: HostRuntime) -> Result<(), Fail> {
 
 #[test]
 fn first_video_parameter_sets(rt: HostRuntime) -> Result<(), Fail> {
-    // TemporalId, the unit, the output layer set that is asked for, and what is answered
+    // TemporalId, the unit, the output layer set that is asked for, and what is answered.
     let rows = [
         (0, VPS, 0, Ok(Turn::First)),
         (1, VPS, 0, Err(VpsFault::Refused(Rule::VpsTid))),
@@ -196,7 +196,7 @@ fn video_parameter_sets_behind_one(rt: HostRuntime) -> Result<(), Fail> {
     let Some(vps) = first(rt.alloc(), VPS) else {
         return Err(Fail::new("it is not the first"));
     };
-    // a repeated one is asked for its TemporalId alone, and one that differs in its id or its level is a changed one
+    // A repeated one is asked for its TemporalId alone, and one that differs in its id or its level is a changed one.
     let rows = [
         (0, VPS, 0, Ok(Turn::Repeated)),
         (0, VPS, 1, Ok(Turn::Repeated)),

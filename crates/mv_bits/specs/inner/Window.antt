@@ -4,11 +4,11 @@ use Rattle.std.specs.Borrow.{Bor}
 use Rattle.mv_syntax.specs.Bits.{u_bits, byte_bits, has_one}
 use Rattle.mv_syntax.specs.Cursor.{Cursor, place}
 
--- The bits of `count` bits in hand, as the number `word`, and of the bytes behind them.
+-- the bits of `count` bits in hand, as the number `word`, and of the bytes behind them
 unfoldable pub window_bits : ℕ → ℕ → List ℕ → List Bool
 window_bits count word bytes = u_bits count word ++ byte_bits bytes
 
--- What is left, as bits in hand and the bytes behind them, where a bit is in hand. The string ends where a byte does.
+-- what is left, as bits in hand and the bytes behind them, where a bit is in hand; the string ends where a byte does
 pub record IsWindow (cursor : Cursor) (window : ℕ × ℕ × Bor (List ℕ)) : Type 0 where
   pub left : window_bits window.1 window.0 window.2.now ≡ cursor.left
   pub some : 0 < window.1
@@ -16,8 +16,8 @@ pub record IsWindow (cursor : Cursor) (window : ℕ × ℕ × Bor (List ℕ)) : 
   pub in_hand : window.0 < 2 ^ window.1
   pub whole : (place cursor + length cursor.left) % 8 ≡ 0
 
--- What is known of the last set bit: behind n of these bytes, which are the last of `whole`, a bit is set where that many bytes
--- of the whole are fewer than `set`.
+-- what is known of the last set bit: behind n of these bytes, which are the last of `whole`, a bit is set where that many bytes
+-- of the whole are fewer than `set`
 pub record SetKnown (set whole : ℕ) (bytes : List ℕ) : Type 0 where
   pub within : set ≤ whole
   pub known : (n : ℕ) → has_one (byte_bits (drop n bytes)) ≡ nat_lt (whole - length bytes + n) set

@@ -5,18 +5,18 @@ use Rattle.mv_syntax.specs.Bits.{Fault, short, breaks, kept, take_bits, take_ue,
 use Rattle.mv_syntax.specs.Bits as bits
 use Rattle.mv_syntax.specs.Table.{Table, u, ue, se, named, refused, checked, ◌>>=◌, when, repeat, by_rule, padded, shaped}
 
--- The same answer, where a broken rule counts as rule r.
+-- the same answer, where a broken rule counts as rule r
 abbrev pub counted_as : {A : Type 0} → ℕ → Result A Fault → Result A Fault
 counted_as r (Ok x) = Ok x
 counted_as r (Err short) = Err short
 counted_as r (Err (breaks s)) = Err (breaks r)
 
--- A loop of n turns, with the items so far.
+-- a loop of n turns, with the items so far
 abbrev pub read_each : {A : Type 0} → (List A → List Bool → Result (A × List Bool) Fault) → ℕ → List A → List Bool → Result (List A × List Bool) Fault
 read_each one zero before b = Ok (before, b)
 read_each one (suc n) before b = bits.◌>>=◌ (one before b) (λ x. read_each one n (before ++ x.0 ∷ []) x.1)
 
--- The rest of b, where b begins with these bits.
+-- the rest of b, where b begins with these bits
 abbrev pub behind : List Bool → List Bool → Result (List Bool) Fault
 behind [] b = Ok b
 behind (x ∷ xs) [] = Err short
@@ -25,7 +25,7 @@ behind (true ∷ xs) (false ∷ b) = Err short
 behind (false ∷ xs) (true ∷ b) = Err short
 behind (false ∷ xs) (false ∷ b) = behind xs b
 
--- The reader on lists of bits: the value and the rest, the first broken rule, or short.
+-- the reader on lists of bits: the value and the rest, the first broken rule, or short
 abbrev pub read : {A : Type 0} → Table A → List Bool → Result (A × List Bool) Fault
 read (u n) b = take_bits n 0 b
 read ue b = take_ue b

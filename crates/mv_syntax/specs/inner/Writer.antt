@@ -3,12 +3,12 @@ use Rattle.std.specs.Prelude.{◌-◌, Bool, List, [], ◌∷◌, ◌++◌, leng
 use Rattle.mv_syntax.specs.Bits.{u_bits, ue_bits, se_bits}
 use Rattle.mv_syntax.specs.Table.{Table, u, ue, se, named, refused, checked, ◌>>=◌, when, repeat, by_rule, padded, shaped}
 
--- The items of a list written in turn.
+-- the items of a list written in turn
 abbrev pub put_each : {A : Type 0} → (List A → A → List Bool → List Bool) → List A → List A → List Bool → List Bool
 put_each one before [] out = out
 put_each one before (v ∷ vs) out = put_each one (before ++ v ∷ []) vs (one before v out)
 
--- What was written with the bits of a value behind it, field by field.
+-- what was written with the bits of a value behind it, field by field
 abbrev pub put : {A : Type 0} → Table A → A → List Bool → List Bool
 put (u n) v out = out ++ u_bits n v
 put ue v out = out ++ ue_bits v
