@@ -1,4 +1,5 @@
 use crate::run::run_within;
+use crate::two_view_tests::ONES;
 use mv_io::{MemSink, MemSource, Source};
 use std::alloc::Global;
 use std::process::Abort;
@@ -6,7 +7,10 @@ use std::test::Fail;
 
 const TWELVE: [u8; 12] = [0, 0, 1, 0x40, 1, 0xAA, 0, 0, 1, 2, 9, 0xBB];
 
-const SEVEN: [u8; 7] = [0, 0, 0, 1, 0x40, 1, 0xAA];
+// Two access unit delimiters, and one of them framed.
+const DELIMITERS: [u8; 12] = [0, 0, 1, 0x46, 1, 0x50, 0, 0, 1, 0x46, 1, 0x50];
+
+const FRAMED_DELIMITER: [u8; 7] = [0, 0, 0, 1, 0x46, 1, 0x50];
 
 const USAGE: &str =
     "usage: mv_cli extract N | digest N [format1] | check | show | gen NUMBER COUNT [sum] | pack | unpack\n";
@@ -28,15 +32,15 @@ pub struct Row<'a> {
 
 pub const PLAIN: Row<'static> = Row {
     words: &["extract", "0"],
-    input: &TWELVE,
+    input: &[],
     limit: 1000,
     pieces: &[],
     failing_reads: &[],
     failing_writes: &[],
     failing_faults: &[],
-    status: 0,
-    output: &SEVEN,
-    line: "",
+    status: 1,
+    output: &[],
+    line: "refused: unit 0 at byte 0: rule 73 NoPicture\n",
 };
 
 // What came out of a run.
@@ -73,50 +77,48 @@ pub fn check(rt: &impl Abort, alloc: Global, row: &Row) -> Result<(), Fail> {
 
 #[test]
 fn streams(rt: HostRuntime) -> Result<(), Fail> {
-    let leading = [0xFF, 0, 0, 1, 0x46, 1, 0x50];
     let zeros = [0; 11];
     let rows = [
         PLAIN,
         Row {
-            pieces: &[1, 1, 1, 1, 1, 1, 1, 1, 1, 1, 1, 1],
+            words: &["check"],
             ..PLAIN
         },
         Row {
-            input: &[],
-            output: &[],
+            words: &["show"],
+            input: &DELIMITERS,
+            output: b"unit 0 at 3: layer 0 tid 0 AUD\nunit 1 at 9: layer 0 tid 0 AUD\n",
+            line: "refused: unit 2 at byte 12: rule 73 NoPicture\n",
+            ..PLAIN
+        },
+        Row {
+            input: &TWELVE,
+            line: "refused: unit 0 at byte 3: rule 11 ExternalBase\n",
             ..PLAIN
         },
         Row {
             input: &[0, 0, 1, 0xC0, 1],
-            status: 1,
-            output: &[],
             line: "refused: unit 0 at byte 3: rule 5 Head\n",
             ..PLAIN
         },
         Row {
-            input: &leading,
-            status: 1,
-            output: &[],
+            input: &[0xFF, 0, 0, 1, 0x46, 1, 0x50],
             line: "refused: unit 0 at byte 0: rule 1 Leading\n",
             ..PLAIN
         },
         Row {
             input: &[0, 0, 1, 0x46],
-            status: 1,
-            output: &[],
             line: "refused: unit 0 at byte 3: rule 2 Short\n",
             ..PLAIN
         },
         Row {
-            input: &[0, 0, 1, 0x40, 1, 0xAA, 0, 0, 1, 0x46],
-            status: 1,
+            input: &[0, 0, 1, 0x46, 1, 0x50, 0, 0, 1, 0x46],
+            output: &FRAMED_DELIMITER,
             line: "refused: unit 1 at byte 9: rule 2 Short\n",
             ..PLAIN
         },
         Row {
             input: &[0, 0, 1, 0x26, 1, 0, 0, 2, 0xD0],
-            status: 1,
-            output: &[],
             line: "refused: unit 0 at byte 3: rule 3 Emulation\n",
             ..PLAIN
         },
@@ -124,19 +126,26 @@ fn streams(rt: HostRuntime) -> Result<(), Fail> {
             input: &zeros,
             limit: 10,
             status: 7,
-            output: &[],
             line: "too long\n",
             ..PLAIN
         },
         Row {
             input: &zeros[..10],
             limit: 10,
-            output: &[],
+            line: "refused: unit 0 at byte 10: rule 73 NoPicture\n",
             ..PLAIN
         },
     ];
     for row in &rows {
         check(&rt, rt.alloc(), row)?;
+        check(
+            &rt,
+            rt.alloc(),
+            &Row {
+                pieces: &ONES,
+                ..*row
+            },
+        )?;
     }
     Ok(())
 }
@@ -145,19 +154,22 @@ static PACKED: [u8; 14] = [0, 0, 0, 3, 0x40, 1, 0xAA, 0, 0, 0, 3, 2, 9, 0xBB];
 
 static FRAMED: [u8; 14] = [0, 0, 0, 1, 0x40, 1, 0xAA, 0, 0, 0, 1, 2, 9, 0xBB];
 
-static ONES: [u32; 14] = [1; 14];
-
 #[test]
 fn units_behind_their_lengths(rt: HostRuntime) -> Result<(), Fail> {
     let packs = Row {
         words: &["pack"],
+        input: &TWELVE,
+        status: 0,
         output: &PACKED,
+        line: "",
         ..PLAIN
     };
     let unpacks = Row {
         words: &["unpack"],
         input: &PACKED,
+        status: 0,
         output: &FRAMED,
+        line: "",
         ..PLAIN
     };
     let rows = [
@@ -220,52 +232,48 @@ fn units_behind_their_lengths(rt: HostRuntime) -> Result<(), Fail> {
 
 #[test]
 fn faults(rt: HostRuntime) -> Result<(), Fail> {
-    let head = [0, 0, 1, 0xC0, 1];
+    let plain = Row {
+        input: &DELIMITERS,
+        output: &FRAMED_DELIMITER,
+        status: 3,
+        line: "read fault\n",
+        ..PLAIN
+    };
     let rows = [
         Row {
             failing_reads: &[0],
-            status: 3,
             output: &[],
-            line: "read fault\n",
-            ..PLAIN
+            ..plain
         },
         Row {
             failing_reads: &[1],
-            status: 3,
-            line: "read fault\n",
-            ..PLAIN
+            ..plain
         },
         Row {
             failing_writes: &[0],
             status: 4,
             output: &[],
             line: "write fault\n",
-            ..PLAIN
+            ..plain
         },
         Row {
             failing_writes: &[1],
             status: 4,
-            output: &SEVEN[..4],
+            output: &FRAMED_DELIMITER[..4],
             line: "write fault\n",
-            ..PLAIN
+            ..plain
         },
         Row {
-            failing_writes: &[2],
-            ..PLAIN
-        },
-        Row {
-            input: &head,
             failing_faults: &[0],
-            status: 1,
-            output: &[],
+            line: "",
             ..PLAIN
         },
         Row {
             failing_reads: &[0],
             failing_faults: &[0],
-            status: 3,
             output: &[],
-            ..PLAIN
+            line: "",
+            ..plain
         },
     ];
     for row in &rows {
@@ -284,48 +292,34 @@ fn other_words(rt: HostRuntime) -> Result<(), Fail> {
         line: USAGE,
         ..PLAIN
     };
-    let rows = [
-        Row {
-            words: &[],
-            ..usage
-        },
-        Row {
-            words: &["extract"],
-            ..usage
-        },
-        Row {
-            words: &["extract", "1"],
-            ..usage
-        },
-        Row {
-            words: &["extract", "00"],
-            ..usage
-        },
-        Row {
-            words: &["extract", "0", "0"],
-            ..usage
-        },
-        Row {
-            words: &["digest", "0"],
-            ..usage
-        },
-        Row {
-            words: &["-h"],
-            ..usage
-        },
-        Row {
-            words: &["help"],
-            ..usage
-        },
-        Row {
-            words: &["check"],
+    let forms: [&[&str]; 15] = [
+        &[],
+        &["extract"],
+        &["extract", ""],
+        &["extract", "x"],
+        &["extract", "-1"],
+        &["extract", "+1"],
+        &["extract", "4294967296"],
+        &["extract", "00000000000"],
+        &["extract", "0", "0"],
+        &["check", "0"],
+        &["digest", "0"],
+        &["gen", "7", "0"],
+        &["-h"],
+        &["--help"],
+        &["help"],
+    ];
+    for words in &forms {
+        check(&rt, rt.alloc(), &Row { words, ..usage })?;
+    }
+    check(
+        &rt,
+        rt.alloc(),
+        &Row {
+            words: &["shows"],
             failing_faults: &[0],
             line: "",
             ..usage
         },
-    ];
-    for row in &rows {
-        check(&rt, rt.alloc(), row)?;
-    }
-    Ok(())
+    )
 }

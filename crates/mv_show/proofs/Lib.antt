@@ -1,0 +1,5 @@
+pub mod Lacking
+mod Shows
+mod Texts
+mod Visited
+mod Walked

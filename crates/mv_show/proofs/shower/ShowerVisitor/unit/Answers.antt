@@ -1,0 +1,1 @@
+use Rattle.mv_show.proofs.shower.ShowerVisitor.unit.Goals as goal
