@@ -1,5 +1,4 @@
 use crate::run::run_within;
-use crate::two_view_tests::ONES;
 use mv_io::{MemSink, MemSource, Source};
 use std::alloc::Global;
 use std::process::Abort;
@@ -7,10 +6,7 @@ use std::test::Fail;
 
 const TWELVE: [u8; 12] = [0, 0, 1, 0x40, 1, 0xAA, 0, 0, 1, 2, 9, 0xBB];
 
-// Two access unit delimiters, and one of them framed.
-const DELIMITERS: [u8; 12] = [0, 0, 1, 0x46, 1, 0x50, 0, 0, 1, 0x46, 1, 0x50];
-
-const FRAMED_DELIMITER: [u8; 7] = [0, 0, 0, 1, 0x46, 1, 0x50];
+const SEVEN: [u8; 7] = [0, 0, 0, 1, 0x40, 1, 0xAA];
 
 const USAGE: &str =
     "usage: mv_cli extract N | digest N [format1] | check | show | gen NUMBER COUNT [sum] | pack | unpack\n";
@@ -32,15 +28,15 @@ pub struct Row<'a> {
 
 pub const PLAIN: Row<'static> = Row {
     words: &["extract", "0"],
-    input: &[],
+    input: &TWELVE,
     limit: 1000,
     pieces: &[],
     failing_reads: &[],
     failing_writes: &[],
     failing_faults: &[],
-    status: 1,
-    output: &[],
-    line: "refused: unit 0 at byte 0: rule 73 NoPicture\n",
+    status: 0,
+    output: &SEVEN,
+    line: "",
 };
 
 // What came out of a run.
@@ -77,48 +73,50 @@ pub fn check(rt: &impl Abort, alloc: Global, row: &Row) -> Result<(), Fail> {
 
 #[test]
 fn streams(rt: HostRuntime) -> Result<(), Fail> {
+    let leading = [0xFF, 0, 0, 1, 0x46, 1, 0x50];
     let zeros = [0; 11];
     let rows = [
         PLAIN,
         Row {
-            words: &["check"],
+            pieces: &[1, 1, 1, 1, 1, 1, 1, 1, 1, 1, 1, 1],
             ..PLAIN
         },
         Row {
-            words: &["show"],
-            input: &DELIMITERS,
-            output: b"unit 0 at 3: layer 0 tid 0 AUD\nunit 1 at 9: layer 0 tid 0 AUD\n",
-            line: "refused: unit 2 at byte 12: rule 73 NoPicture\n",
-            ..PLAIN
-        },
-        Row {
-            input: &TWELVE,
-            line: "refused: unit 0 at byte 3: rule 11 ExternalBase\n",
+            input: &[],
+            output: &[],
             ..PLAIN
         },
         Row {
             input: &[0, 0, 1, 0xC0, 1],
+            status: 1,
+            output: &[],
             line: "refused: unit 0 at byte 3: rule 5 Head\n",
             ..PLAIN
         },
         Row {
-            input: &[0xFF, 0, 0, 1, 0x46, 1, 0x50],
+            input: &leading,
+            status: 1,
+            output: &[],
             line: "refused: unit 0 at byte 0: rule 1 Leading\n",
             ..PLAIN
         },
         Row {
             input: &[0, 0, 1, 0x46],
+            status: 1,
+            output: &[],
             line: "refused: unit 0 at byte 3: rule 2 Short\n",
             ..PLAIN
         },
         Row {
-            input: &[0, 0, 1, 0x46, 1, 0x50, 0, 0, 1, 0x46],
-            output: &FRAMED_DELIMITER,
+            input: &[0, 0, 1, 0x40, 1, 0xAA, 0, 0, 1, 0x46],
+            status: 1,
             line: "refused: unit 1 at byte 9: rule 2 Short\n",
             ..PLAIN
         },
         Row {
             input: &[0, 0, 1, 0x26, 1, 0, 0, 2, 0xD0],
+            status: 1,
+            output: &[],
             line: "refused: unit 0 at byte 3: rule 3 Emulation\n",
             ..PLAIN
         },
@@ -126,26 +124,19 @@ fn streams(rt: HostRuntime) -> Result<(), Fail> {
             input: &zeros,
             limit: 10,
             status: 7,
+            output: &[],
             line: "too long\n",
             ..PLAIN
         },
         Row {
             input: &zeros[..10],
             limit: 10,
-            line: "refused: unit 0 at byte 10: rule 73 NoPicture\n",
+            output: &[],
             ..PLAIN
         },
     ];
     for row in &rows {
         check(&rt, rt.alloc(), row)?;
-        check(
-            &rt,
-            rt.alloc(),
-            &Row {
-                pieces: &ONES,
-                ..*row
-            },
-        )?;
     }
     Ok(())
 }
@@ -154,22 +145,19 @@ static PACKED: [u8; 14] = [0, 0, 0, 3, 0x40, 1, 0xAA, 0, 0, 0, 3, 2, 9, 0xBB];
 
 static FRAMED: [u8; 14] = [0, 0, 0, 1, 0x40, 1, 0xAA, 0, 0, 0, 1, 2, 9, 0xBB];
 
+static ONES: [u32; 14] = [1; 14];
+
 #[test]
 fn units_behind_their_lengths(rt: HostRuntime) -> Result<(), Fail> {
     let packs = Row {
         words: &["pack"],
-        input: &TWELVE,
-        status: 0,
         output: &PACKED,
-        line: "",
         ..PLAIN
     };
     let unpacks = Row {
         words: &["unpack"],
         input: &PACKED,
-        status: 0,
         output: &FRAMED,
-        line: "",
         ..PLAIN
     };
     let rows = [
@@ -232,48 +220,52 @@ fn units_behind_their_lengths(rt: HostRuntime) -> Result<(), Fail> {
 
 #[test]
 fn faults(rt: HostRuntime) -> Result<(), Fail> {
-    let plain = Row {
-        input: &DELIMITERS,
-        output: &FRAMED_DELIMITER,
-        status: 3,
-        line: "read fault\n",
-        ..PLAIN
-    };
+    let head = [0, 0, 1, 0xC0, 1];
     let rows = [
         Row {
             failing_reads: &[0],
+            status: 3,
             output: &[],
-            ..plain
+            line: "read fault\n",
+            ..PLAIN
         },
         Row {
             failing_reads: &[1],
-            ..plain
+            status: 3,
+            line: "read fault\n",
+            ..PLAIN
         },
         Row {
             failing_writes: &[0],
             status: 4,
             output: &[],
             line: "write fault\n",
-            ..plain
+            ..PLAIN
         },
         Row {
             failing_writes: &[1],
             status: 4,
-            output: &FRAMED_DELIMITER[..4],
+            output: &SEVEN[..4],
             line: "write fault\n",
-            ..plain
+            ..PLAIN
         },
         Row {
+            failing_writes: &[2],
+            ..PLAIN
+        },
+        Row {
+            input: &head,
             failing_faults: &[0],
-            line: "",
+            status: 1,
+            output: &[],
             ..PLAIN
         },
         Row {
             failing_reads: &[0],
             failing_faults: &[0],
+            status: 3,
             output: &[],
-            line: "",
-            ..plain
+            ..PLAIN
         },
     ];
     for row in &rows {
@@ -292,34 +284,48 @@ fn other_words(rt: HostRuntime) -> Result<(), Fail> {
         line: USAGE,
         ..PLAIN
     };
-    let forms: [&[&str]; 15] = [
-        &[],
-        &["extract"],
-        &["extract", ""],
-        &["extract", "x"],
-        &["extract", "-1"],
-        &["extract", "+1"],
-        &["extract", "4294967296"],
-        &["extract", "00000000000"],
-        &["extract", "0", "0"],
-        &["check", "0"],
-        &["digest", "0"],
-        &["gen", "7", "0"],
-        &["-h"],
-        &["--help"],
-        &["help"],
-    ];
-    for words in &forms {
-        check(&rt, rt.alloc(), &Row { words, ..usage })?;
-    }
-    check(
-        &rt,
-        rt.alloc(),
-        &Row {
-            words: &["shows"],
+    let rows = [
+        Row {
+            words: &[],
+            ..usage
+        },
+        Row {
+            words: &["extract"],
+            ..usage
+        },
+        Row {
+            words: &["extract", "1"],
+            ..usage
+        },
+        Row {
+            words: &["extract", "00"],
+            ..usage
+        },
+        Row {
+            words: &["extract", "0", "0"],
+            ..usage
+        },
+        Row {
+            words: &["digest", "0"],
+            ..usage
+        },
+        Row {
+            words: &["-h"],
+            ..usage
+        },
+        Row {
+            words: &["help"],
+            ..usage
+        },
+        Row {
+            words: &["check"],
             failing_faults: &[0],
             line: "",
             ..usage
         },
-    )
+    ];
+    for row in &rows {
+        check(&rt, rt.alloc(), row)?;
+    }
+    Ok(())
 }

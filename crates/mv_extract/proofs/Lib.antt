@@ -1,10 +1,4 @@
-pub mod Accepted
-pub mod Commuted
 pub mod Ended
-pub mod Extractions
 pub mod Kept
-pub mod Lacking
 pub mod Settled
-pub mod Unwritten
-pub mod Visited
-pub mod Walked
+pub mod Sound

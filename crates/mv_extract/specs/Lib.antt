@@ -1,7 +1,5 @@
-pub mod Accepting
 pub mod Answers
-pub mod Commutes
 pub mod Errors
-pub mod Extractor
+pub mod Keeping
 pub mod Task
 pub mod Text

@@ -1,15 +1,10 @@
-//! Extraction of a sub-bitstream: the units of the layers that are kept for an output layer set, each put behind a start code,
-//! bytes unchanged, while the whole stream is checked.
+//! Extraction of a sub-bitstream: the units of the layers that are kept, each put behind a start code,
+//! bytes unchanged.
 #![tactic(auto)]
 
-mod accepting;
+mod base_layer;
 mod error;
-mod extracting;
-mod extractor;
-mod keeping;
-pub mod laws;
-mod no_sink;
+mod heads;
 
-pub use error::{ExtractError, WorkFault};
-pub use extracting::{check, extract};
-pub use keeping::keeps;
+pub use error::ExtractError;
+pub use heads::extract_heads;

@@ -1,5 +1,0 @@
-pub mod Lacking
-mod Shows
-mod Texts
-mod Visited
-mod Walked

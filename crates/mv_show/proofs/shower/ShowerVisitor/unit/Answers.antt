@@ -1,1 +1,0 @@
-use Rattle.mv_show.proofs.shower.ShowerVisitor.unit.Goals as goal
