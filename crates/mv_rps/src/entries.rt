@@ -13,7 +13,7 @@ ghost use Rattle.mv_pictures.specs.SliceFields.{Entry, short_entry, long_entry, 
 ghost use Rattle.mv_rps.specs.RefSet.{aim_of, aimed, entry_of, with_cycle, cycle_before};
 
 use mv_fields::or_zero;
-use mv_short_sets::{Delta, Deltas, ShortArgs, ShortSet};
+use mv_short_sets::{Delta, ShortArgs, ShortSet};
 use mv_slice::{LongTerm, LongTerms, SliceContext, SliceReferences};
 use smallvec::SmallVec;
 use std::alloc::{AllocError, Global};
@@ -49,13 +49,13 @@ impl Default for CodedEntry {
 pub type Entries = SmallVec<CodedEntry, 16>;
 
 // The deltas of a set of the sequence parameter set; of one that it hasn't, none.
-fn deltas_of_sps(alloc: Global, ctx: &SliceContext, idx: u8) -> Result<Deltas, AllocError>
+fn deltas_of_sps(alloc: Global, ctx: &SliceContext, idx: u8) -> Result<Vec<Delta>, AllocError>
     requires { Fits ctx.now }
     ensures { IfOk result (λ v. v.items ≡ get_or (deltas_of_each ctx.now.short_sets) idx []) }
 {
     let at = usize::from(idx);
     let Some(set) = ctx.short_sets.get(at) else {
-        return Ok(SmallVec::new(alloc));
+        return Ok(Vec::new(alloc));
     };
     let args = ShortArgs {
         idx,
@@ -72,7 +72,7 @@ fn short_deltas_of(
     ctx: &SliceContext,
     coded: &Option<ShortSet>,
     idx: Option<u8>,
-) -> Result<Deltas, AllocError>
+) -> Result<Vec<Delta>, AllocError>
     requires fits { Fits ctx.now }
     requires valid { IfSome coded.now (λ set. Valid (own_set ctx.now) set) }
     ensures { IfOk result (λ v. v.items ≡ short_deltas ctx.now coded.now idx) }
@@ -221,7 +221,7 @@ pub fn entries_of(
         &coded.st_ref_pic_set,
         coded.short_term_ref_pic_set_idx,
     )?;
-    add_short(&mut out, deltas.as_slice())?;
+    add_short(&mut out, &deltas)?;
     add_long_if(&mut out, ctx, &coded.long_terms)?;
     Ok(out)
 }

@@ -8,10 +8,9 @@ ghost use Rattle.mv_short_sets.specs.Deltas.{is_on, at_distance, steps, direct, 
 ghost use Rattle.mv_short_sets.specs.ShortSet.{set_fields, st_ref_pic_set, AreShortArgs};
 ghost use Rattle.mv_short_sets.specs.declared.delta.Side.TheVariants.{Before, After};
 
-use crate::delta::{Delta, Deltas, Side};
+use crate::delta::{Delta, Side};
 use crate::short_set::{ShortArgs, ShortSet};
 use mv_fields::{coded_set, or_zero};
-use smallvec::SmallVec;
 use std::alloc::{AllocError, Global};
 
 fn lies_on(side: Side, delta: i32) -> bool
@@ -34,7 +33,12 @@ fn delta_at(side: Side, distance: u32) -> i32
 }
 
 /// Adds the pictures of one side of a set that is coded directly.
-fn add_steps(out: &mut Deltas, side: Side, minus1: &[u32], flags: &[u8]) -> Result<(), AllocError>
+fn add_steps(
+    out: &mut Vec<Delta>,
+    side: Side,
+    minus1: &[u32],
+    flags: &[u8],
+) -> Result<(), AllocError>
     requires flags { length flags.now ≡ length minus1.now }
     requires few { length minus1.now ≤ 16 }
     requires low { All (λ m. m ≤ 32767) minus1.now }
@@ -53,7 +57,7 @@ fn add_steps(out: &mut Deltas, side: Side, minus1: &[u32], flags: &[u8]) -> Resu
 
 /// The deltas of a set that is coded directly.
 #[tactic(auto, unfolding(crate::specs::Deltas::direct))]
-fn direct_deltas(alloc: Global, set: &ShortSet) -> Result<Deltas, AllocError>
+fn direct_deltas(alloc: Global, set: &ShortSet) -> Result<Vec<Delta>, AllocError>
     requires flags0 { length set.now.used_by_curr_pic_s0_flag ≡ length set.now.delta_poc_s0_minus1 }
     requires few0 { length set.now.delta_poc_s0_minus1 ≤ 16 }
     requires low0 { All (λ m. m ≤ 32767) set.now.delta_poc_s0_minus1 }
@@ -62,7 +66,7 @@ fn direct_deltas(alloc: Global, set: &ShortSet) -> Result<Deltas, AllocError>
     requires low1 { All (λ m. m ≤ 32767) set.now.delta_poc_s1_minus1 }
     ensures { IfOk result (λ v. v.items ≡ direct set.now) }
 {
-    let mut out = SmallVec::new(alloc);
+    let mut out = Vec::new(alloc);
     add_steps(
         &mut out,
         Side::Before,
@@ -106,7 +110,7 @@ fn uses_delta(set: &ShortSet, flags: usize) -> bool
 
 /// Adds one candidate of a predicted set, where it is taken.
 fn add_taken(
-    out: &mut Deltas,
+    out: &mut Vec<Delta>,
     side: Side,
     set: &ShortSet,
     delta: i32,
@@ -135,7 +139,7 @@ fn moved_by(one: &Delta, d: i32) -> i32
 
 /// Adds candidates from the last to the first: some deltas of the reference set plus d, whose flags begin at `first`.
 fn add_backward(
-    out: &mut Deltas,
+    out: &mut Vec<Delta>,
     side: Side,
     set: &ShortSet,
     some: &[Delta],
@@ -160,7 +164,7 @@ fn add_backward(
 
 /// Adds candidates from the first to the last: some deltas of the reference set plus d, whose flags begin at `first`.
 fn add_forward(
-    out: &mut Deltas,
+    out: &mut Vec<Delta>,
     side: Side,
     set: &ShortSet,
     some: &[Delta],
@@ -191,7 +195,7 @@ fn count_before(some: &[Delta]) -> usize
 /// Adds the pictures before the current one of a predicted set: the candidates are those after it in the reference set from
 /// the last to the first, its picture, and those before it from the first to the last.
 fn add_before(
-    out: &mut Deltas,
+    out: &mut Vec<Delta>,
     set: &ShortSet,
     before: &[Delta],
     after: &[Delta],
@@ -214,7 +218,7 @@ fn add_before(
 /// Adds the pictures after the current one of a predicted set: the candidates are those before it in the reference set from
 /// the last to the first, its picture, and those after it from the first to the last.
 fn add_after(
-    out: &mut Deltas,
+    out: &mut Vec<Delta>,
     set: &ShortSet,
     before: &[Delta],
     after: &[Delta],
@@ -240,7 +244,7 @@ fn predicted_deltas(
     alloc: Global,
     set: &ShortSet,
     reference: &[Delta],
-) -> Result<Deltas, AllocError>
+) -> Result<Vec<Delta>, AllocError>
     requires sides { IsSided reference.now }
     requires near { All (IsNear (2 ^ 22)) reference.now }
     requires few { length reference.now ≤ 16 }
@@ -252,7 +256,7 @@ fn predicted_deltas(
     let d = difference(set);
     let n = count_before(reference);
     let (before, after) = reference.split_at(n);
-    let mut out = SmallVec::new(alloc);
+    let mut out = Vec::new(alloc);
     add_before(&mut out, set, before, after, d)?;
     add_after(&mut out, set, before, after, d)?;
     Ok(out)
@@ -264,7 +268,7 @@ pub(crate) fn reference_deltas(
     alloc: Global,
     args: &ShortArgs<'_>,
     delta_idx_minus1: Option<u32>,
-) -> Result<Deltas, AllocError>
+) -> Result<Vec<Delta>, AllocError>
     requires args { AreShortArgs args.now.idx args.now.num args.now.earlier.now }
     requires index { or_zero delta_idx_minus1 < args.now.idx }
     ensures { IfOk result (λ v. v.items ≡ reference args.now.idx (deltas_of_each args.now.earlier.now) delta_idx_minus1) }
@@ -285,14 +289,14 @@ pub(crate) fn deltas_of(
     alloc: Global,
     set: &ShortSet,
     args: &ShortArgs<'_>,
-) -> Result<Deltas, AllocError>
+) -> Result<Vec<Delta>, AllocError>
     requires args { AreShortArgs args.now.idx args.now.num args.now.earlier.now }
     requires valid { Valid (set_fields args.now.idx args.now.num (deltas_of_each args.now.earlier.now)) set.now }
     ensures { IfOk result (λ v. v.items ≡ deltas args.now.idx (deltas_of_each args.now.earlier.now) set.now) }
 {
     if coded_set(set.inter_ref_pic_set_prediction_flag) {
         let reference = reference_deltas(alloc, args, set.delta_idx_minus1)?;
-        predicted_deltas(alloc, set, reference.as_slice())
+        predicted_deltas(alloc, set, &reference)
     } else {
         direct_deltas(alloc, set)
     }
@@ -303,7 +307,7 @@ impl ShortSet {
     ///
     /// `AllocError` where memory runs out.
     #[tactic(auto, using(crate::proofs::SetLaws::fields_valid))]
-    pub fn deltas(&self, alloc: Global, args: &ShortArgs<'_>) -> Result<Deltas, AllocError>
+    pub fn deltas(&self, alloc: Global, args: &ShortArgs<'_>) -> Result<Vec<Delta>, AllocError>
         requires args { AreShortArgs args.now.idx args.now.num args.now.earlier.now }
         requires valid { Valid (st_ref_pic_set args.now.idx args.now.num (deltas_of_each args.now.earlier.now)) self.now }
         ensures { IfOk result (λ v. v.items ≡ deltas args.now.idx (deltas_of_each args.now.earlier.now) self.now) }

@@ -6,6 +6,6 @@ mod deltas;
 mod laws;
 mod short_set;
 
-pub use delta::{Delta, Deltas, Side};
+pub use delta::{Delta, Side};
 pub use laws::{delta_laws, short_set_laws};
 pub use short_set::{ShortArgs, ShortSet};

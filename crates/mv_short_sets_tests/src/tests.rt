@@ -41,7 +41,7 @@ fn sets_of(
 }
 
 // A set's deltas, what is written of it with trailing bits, and its lines.
-fn again(alloc: Global, coded: &Coded) -> Result<(Deltas, Vec<u8>, Printer), Fault<Limit>>
+fn again(alloc: Global, coded: &Coded) -> Result<(Vec<Delta>, Vec<u8>, Printer), Fault<Limit>>
     requires within { coded.now.idx ≤ coded.now.num }
     requires few { coded.now.num ≤ 64 }
 {

@@ -44,7 +44,7 @@ fn num_used_of_set(alloc: Global, set: &ShortSet, args: &ShortArgs<'_>) -> Resul
 {
     if coded_set(set.inter_ref_pic_set_prediction_flag) {
         let deltas = set.deltas(alloc, args)?;
-        return Ok(num_used_deltas(deltas.as_slice()));
+        return Ok(num_used_deltas(&deltas));
     }
     Ok(num_set(&set.used_by_curr_pic_s0_flag) + num_set(&set.used_by_curr_pic_s1_flag))
 }

@@ -46,8 +46,8 @@ deltas_of-predicted_deltas-requires t c =
     let r = idx - or_zero c.args.set.now.delta_idx_minus1 - 1 in
     let less : r < idx = omega arith in
     let known = reference_facts idx c.args.args.now.num sets r c.requires.args less in
-    let same : reference idx (deltas_of_each sets) c.args.set.now.delta_idx_minus1 ≡ c.as_slice.result.now
-    = sym (c.as_slice.ensures ∙ c.in_ok-reference.ensures ∙ ap (λ (s : ShortSetValue). reference idx (deltas_of_each sets) s.delta_idx_minus1) c.set.view_is) in
+    let same : reference idx (deltas_of_each sets) c.args.set.now.delta_idx_minus1 ≡ c.deref.result.now
+    = sym (c.deref.ensures.value ∙ c.in_ok-reference.ensures ∙ ap (λ (s : ShortSetValue). reference idx (deltas_of_each sets) s.delta_idx_minus1) c.set.view_is) in
     record {
       sides = subst IsSided same known.sides;
       near = subst (λ (l : List Delta). (k : _) (d : Delta) → k < length l → IsNear 4194304 (get_or l k d)) same known.near;

@@ -12,16 +12,16 @@ returns-then-coded_set-clause-few c =
     let few : num_short_used (deltas c.args.args.now.idx (deltas_of_each c.args.args.now.earlier.now) c.args.set.now) ≤ 16
     = used-few c.args.args.now.idx c.args.args.now.num (deltas_of_each c.args.args.now.earlier.now) c.args.set.now c.requires.valid in
     let same : c.num_used_deltas.result ≡ num_short_used (deltas c.args.args.now.idx (deltas_of_each c.args.args.now.earlier.now) c.args.set.now)
-    = c.num_used_deltas.ensures ∙ ap num_short_used (c.as_slice.ensures ∙ c.in_ok-deltas.ensures) in
+    = c.num_used_deltas.ensures ∙ ap num_short_used (c.deref.ensures.value ∙ c.in_ok-deltas.ensures) in
     omega arith
 
 -- the ones among the flags of both sides
 counted : (c : goal.After-num_set-2) → c.num_set.result + c.num_set-2.result ≡ num_short_used (deltas c.args.args.now.idx (deltas_of_each c.args.args.now.earlier.now) c.args.set.now)
 counted c =
     let first : c.num_set.result ≡ length (filter is_set c.args.set.now.used_by_curr_pic_s0_flag)
-    = c.num_set.ensures ∙ ap (λ l. length (filter is_set l)) (c.deref.ensures.value ∙ ap (λ (s : ShortSetValue). s.used_by_curr_pic_s0_flag) c.set.view_is) in
+    = c.num_set.ensures ∙ ap (λ l. length (filter is_set l)) (c.deref-2.ensures.value ∙ ap (λ (s : ShortSetValue). s.used_by_curr_pic_s0_flag) c.set.view_is) in
     let second : c.num_set-2.result ≡ length (filter is_set c.args.set.now.used_by_curr_pic_s1_flag)
-    = c.num_set-2.ensures ∙ ap (λ l. length (filter is_set l)) (c.deref-2.ensures.value ∙ ap (λ (s : ShortSetValue). s.used_by_curr_pic_s1_flag) c.set.view_is) in
+    = c.num_set-2.ensures ∙ ap (λ l. length (filter is_set l)) (c.deref-3.ensures.value ∙ ap (λ (s : ShortSetValue). s.used_by_curr_pic_s1_flag) c.set.view_is) in
     let flag : coded_set c.args.set.now.inter_ref_pic_set_prediction_flag ≡ false
     = ap (λ (s : ShortSetValue). coded_set s.inter_ref_pic_set_prediction_flag) (sym c.set.view_is) ∙ sym c.coded_set.ensures ∙ c.if-coded_set.false in
     ap₂ (λ m n. m + n) first second
