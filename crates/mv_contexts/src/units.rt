@@ -29,7 +29,8 @@ const USUAL: usize = 128;
 /// An emulation_prevention_three_byte behind the two zero bytes that it stands behind (7.3.1.1).
 const PREVENTED: [u8; 3] = [0, 0, 3];
 
-// Whether these bytes may have an emulation_prevention_three_byte. Where they have none, the payload is what stands behind the head.
+// Whether these bytes may have an emulation_prevention_three_byte. Where they have none, the payload is what stands behind the
+// head.
 fn has_prevented(unit: &[u8]) -> bool
     ensures { result ≡ false → payload unit.now ≡ drop 2 unit.now }
 {

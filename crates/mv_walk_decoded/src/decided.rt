@@ -27,8 +27,9 @@ use mv_walk_layer::LayerPictures;
 use mv_walk_order::OutputOrder;
 use std::alloc::Global;
 
-/// A decoded picture: its count; what stays of its layer's buffer, and which pictures there it refers to; the layers of its inter-layer
-/// reference pictures; how many references it has of each part; the lists of its first segment; and whether it may be put out.
+/// A decoded picture: its count; what stays of its layer's buffer, and which pictures there it refers to; the layers of its
+/// inter-layer reference pictures; how many references it has of each part; the lists of its first segment; and whether it may be
+/// put out.
 #[derive(Debug, Drop)]
 pub struct Decided {
     /// PicOrderCntVal.
@@ -133,9 +134,9 @@ fn made<P: Drop>(
 /// what is kept of each, by nuh_layer_id. The picture's count is counted in its layer, and its output in the order of output;
 /// nothing else is changed.
 ///
-/// `Refused` with the least rule that it breaks of SpsChanged, FormatDiffers, PocRange, PocMismatch, IrapRefers, TooManyRefs, MissingRef,
-/// MissingInterLayer, ListEntry, NoRefs, Collocated and Reorder. `Memory` where memory runs out. Behind an error nothing is said of
-/// what is kept.
+/// `Refused` with the least rule that it breaks of SpsChanged, FormatDiffers, PocRange, PocMismatch, IrapRefers, TooManyRefs,
+/// MissingRef, MissingInterLayer, ListEntry, NoRefs, Collocated and Reorder. `Memory` where memory runs out. Behind an error
+/// nothing is said of what is kept.
 pub fn decide<P: Drop>(
     alloc: Global,
     layers: &mut [LayerPictures<P>],

@@ -23,7 +23,8 @@ ghost use Rattle.mv_au.specs.Tracker.{broken};
 ghost use Rattle.mv_walk_laws.specs.Rest.{later_rule, picture_rule};
 ghost use Rattle.mv_walk_laws.specs.Streams.{broken_behind, item_behind, objected, placed_behind, placed_units};
 
-/// The next unit is objected to by the least rule that it breaks, or else for an output layer set that its video parameter set lacks.
+/// The next unit is objected to by the least rule that it breaks, or else for an output layer set that its video parameter set
+/// lacks.
 pub fn the_next_unit_is_objected_to()
     ensures is { (o : ℕ) (us : List (List ℕ)) (u : List ℕ) → objected o us u ≡ option_or (option_map Objection.Breaks (broken_behind us u)) (lacking o (item_behind us u)) }
     ensures broken { (o : ℕ) (us : List (List ℕ)) (u : List ℕ) (rule : Rule) → broken_behind us u ≡ Some rule → objected o us u ≡ Some (Objection.Breaks rule) }
@@ -34,8 +35,9 @@ pub fn the_next_unit_is_objected_to()
     ensures other { (o : ℕ) (us : List (List ℕ)) (u : List ℕ) → is_vps (item_behind us u) ≡ false → broken_behind us u ≡ None → objected o us u ≡ None }
 {}
 
-/// The least rule that a unit breaks is that of its parts in turn: the rules on the unit alone, on its parameter set, on a slice segment,
-/// on its picture, on output and on a changed video parameter set; a unit that is no slice segment breaks only those of the first two.
+/// The least rule that a unit breaks is that of its parts in turn: the rules on the unit alone, on its parameter set, on a slice
+/// segment, on its picture, on output and on a changed video parameter set; a unit that is no slice segment breaks only those of
+/// the first two.
 pub fn rules_are_tried_in_parts()
     ensures whole { (past : List Judged) (d : Judged) →
         least_rule past d
@@ -52,8 +54,8 @@ pub fn the_rules_on_a_unit_alone_come_first()
 {}
 
 /// The least rule that the next unit breaks, by what it is (this project's profile): of strays, video parameter sets and units that
-/// are read no further than their heads by the unit alone, of the other parameter sets by what they carry too, and of slice segments
-/// by their sets and their header, by their access unit, and by what is left then.
+/// are read no further than their heads by the unit alone, of the other parameter sets by what they carry too, and of slice
+/// segments by their sets and their header, by their access unit, and by what is left then.
 pub fn the_least_rule_goes_by_kind()
     ensures stray { (us : List (List ℕ)) (u : List ℕ) → is_vps (item_behind us u) ≡ false → is_known (item_behind us u) ≡ false →
         broken_behind us u ≡ first_of (item_cases (item_behind us u)) }

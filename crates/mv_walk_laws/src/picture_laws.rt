@@ -1,5 +1,5 @@
-//! Laws of access units, base pictures, parameter sets and headers behind a stream. Each function has an empty body, and its contract
-//! is the law.
+//! Laws of access units, base pictures, parameter sets and headers behind a stream. Each function has an empty body, and its
+//! contract is the law.
 #![tactic(auto)]
 
 ghost use Rattle.std.specs.Prelude.{◌≡◌, ◌<◌, ◌≤◌, ◌+◌, ◌∷◌, ℕ, Bool, true, false, All, List, None, Option, Some, Ok, Err, is_some, length, nat_eq, option_map, reverse};
@@ -67,8 +67,8 @@ pub fn no_picture_is_open_at_a_video_parameter_set()
         (option_map (in_au (number (placed_units us) (item_behind us u))) (find (λ (d : Judged). is_picture d.fact) (history_of us)) otherwise false) ≡ false }
 {}
 
-/// What a tracker of access units answers of the next unit: its access unit, or the least rule on access units that it breaks, which
-/// no unit does that is no slice segment.
+/// What a tracker of access units answers of the next unit: its access unit, or the least rule on access units that it breaks,
+/// which no unit does that is no slice segment.
 pub fn a_tracker_answers()
     ensures other { (us : List (List ℕ)) (u : List ℕ) → item_slice (item_behind us u) ≡ false →
         answer (items (reverse us)) (item_behind us u) ≡ Ok (record { au = number (placed_units us) (item_behind us u); begins = begins (placed_units us) (item_behind us u) }) }
@@ -89,8 +89,8 @@ pub fn a_picture_has_a_base_picture()
         option_map (λ (d : Judged). nat_eq (au d.fact) (au (fact_behind us u))) (look (history_of us) (fact_behind us u)).base ≡ Some true }
 {}
 
-/// While no unit breaks a rule, no picture is decoded before a base picture is: a picture of another layer has the count of its base
-/// picture, which none has until then (8.3.1, F.8.3.1); and none is while no video parameter set is in force.
+/// While no unit breaks a rule, no picture is decoded before a base picture is: a picture of another layer has the count of its
+/// base picture, which none has until then (8.3.1, F.8.3.1); and none is while no video parameter set is in force.
 pub fn base_pictures_are_decoded_first()
     ensures base { (us : List (List ℕ)) → breaks_none (history_of us) ≡ true → no_picture (history_of us) ≡ true → All (λ (d : Judged). d.decoded ≡ false) (history_of us) }
     ensures set { (us : List (List ℕ)) → breaks_none (history_of us) ≡ true → last_vps us ≡ None → All (λ (d : Judged). d.decoded ≡ false) (history_of us) }
@@ -104,8 +104,8 @@ pub fn a_later_segment_has_its_picture()
         HasPicture (history_of us) (item_behind us u).head.layer (number (placed_units us) (item_behind us u)) }
 {}
 
-/// While no unit breaks a rule, the decoded pictures of an access unit have one count, that of its base picture (F.8.3.1); and access
-/// units don't fall.
+/// While no unit breaks a rule, the decoded pictures of an access unit have one count, that of its base picture (F.8.3.1); and
+/// access units don't fall.
 pub fn an_access_unit_has_one_count()
     ensures one_count { (us : List (List ℕ)) → breaks_none (history_of us) ≡ true →
         Throughout (λ past d. d.decoded ≡ true → All (λ (e : Judged). e.decoded ≡ true → au e.fact ≡ au d.fact → count_of e ≡ count_of d) past) (history_of us) }

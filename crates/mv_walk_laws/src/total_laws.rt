@@ -24,8 +24,8 @@ pub fn kept_units_are_counted()
     ensures by_the_set { (us : List (List ℕ)) (u : List ℕ) (o : ℕ) → stays o (item_behind us u) ≡ keeps o (last_vps (us ++ u ∷ [])) (head u).layer }
 {}
 
-/// How many pictures are decoded and how many sequences there are, with one unit more; and whether a base picture was decoded, while
-/// no unit breaks a rule.
+/// How many pictures are decoded and how many sequences there are, with one unit more; and whether a base picture was decoded,
+/// while no unit breaks a rule.
 pub fn pictures_and_sequences_are_counted()
     ensures pictures { (us : List (List ℕ)) → length (decode us) ≡ length (filter (λ (d : Judged). d.decoded) (history_of us)) }
     ensures pictures_more { (us : List (List ℕ)) (u : List ℕ) →

@@ -1,4 +1,5 @@
-//! Laws of slice segments, and of the latest picture of an access unit. Each function has an empty body, and its contract is the law.
+//! Laws of slice segments, and of the latest picture of an access unit. Each function has an empty body, and its contract is the
+//! law.
 #![tactic(auto)]
 
 ghost use Rattle.std.specs.Prelude.{◌≡◌, ◌<◌, ◌∷◌, ℕ, All, false, true, List, None, Option, Some};
@@ -17,8 +18,8 @@ ghost use Rattle.mv_walk_segment.specs.Open.{IsFirst, IsOpen, Stands};
 ghost use Rattle.mv_walk_segment.specs.OpenValue.{OpenValue};
 ghost use Rattle.mv_walk_segment.specs.Serving.{IsSegment, context_by, sets_by};
 
-/// The first segment of a picture is served by the sets that it names. A segment that what it names serves breaks the rule on what lacks,
-/// and its header takes what the sets give (7.4.7.1; this project's profile).
+/// The first segment of a picture is served by the sets that it names. A segment that what it names serves breaks the rule on what
+/// lacks, and its header takes what the sets give (7.4.7.1; this project's profile).
 pub fn a_first_segment_is_served_by_what_it_names()
     ensures sets { (past : List Fact) (q : Placed) → item_slice q.item ≡ true → item_picture q.item ≡ true → sets_of past q ≡ named_sets past q }
     ensures refused { (vps : WholeVps) (head : UnitHead) (id : ℕ) (past : List Fact) (q : Placed) (rule : Rule) → IsSegment vps head id q → sets_of past q ≡ named_sets past q →

@@ -1,5 +1,5 @@
-//! The slice segments of a picture: the sets that serve each, its header, and how later segments agree with the first (H.265 7.4.7.1,
-//! F.7.4.7.1; this project's profile).
+//! The slice segments of a picture: the sets that serve each, its header, and how later segments agree with the first (H.265
+//! 7.4.7.1, F.7.4.7.1; this project's profile).
 #![tactic(auto)]
 
 mod fault;

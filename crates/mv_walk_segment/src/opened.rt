@@ -147,11 +147,11 @@ impl OpenPicture {
         }
     }
 
-    /// Takes a later segment of it, whose header was read (7.4.7.1, 8.3.4, F.8.3.4; this project's profile). It takes no memory. An error leaves
-    /// the picture as it is.
+    /// Takes a later segment of it, whose header was read (7.4.7.1, 8.3.4, F.8.3.4; this project's profile). It takes no memory. An
+    /// error leaves the picture as it is.
     ///
-    /// `Refused` with the least rule that it breaks of `SliceDiffers`, `AddressOrder`, and where the picture is decoded and the header is full
-    /// `ListEntry`, `NoRefs` and `Collocated`.
+    /// `Refused` with the least rule that it breaks of `SliceDiffers`, `AddressOrder`, and where the picture is decoded and the
+    /// header is full `ListEntry`, `NoRefs` and `Collocated`.
     pub fn add(
         &mut self,
         alloc: Global,
@@ -226,11 +226,12 @@ fn with_full(
     }
 }
 
-/// The header of a segment that isn't the first one of its picture. The sets of the access unit's latest picture serve it where it is of that
-/// picture's layer and names the same picture parameter set, and else those that it names (7.4.7.1; this project's profile).
+/// The header of a segment that isn't the first one of its picture. The sets of the access unit's latest picture serve it where it
+/// is of that picture's layer and names the same picture parameter set, and else those that it names (7.4.7.1; this project's
+/// profile).
 ///
-/// `Refused` by `MissingPps` and `MissingSps` where it is served by what it names and that isn't there, and else by `SliceSyntax` and
-/// `CrossLayerBla`. `Memory` where memory runs out.
+/// `Refused` by `MissingPps` and `MissingSps` where it is served by what it names and that isn't there, and else by `SliceSyntax`
+/// and `CrossLayerBla`. `Memory` where memory runs out.
 pub fn read_later(
     alloc: Global,
     picture: &Option<OpenPicture>,

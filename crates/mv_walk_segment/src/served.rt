@@ -41,8 +41,8 @@ impl Model for Served {
 impl Served {
     /// What serves a segment that names a picture parameter set by itself (7.4.1.4.1, F.7.4.1.4.1; this project's profile).
     ///
-    /// `Refused` by `MissingPps` where no set with that id is in reach of its layer, and else by `MissingSps` where none with the id that this
-    /// names is, or its format isn't there. `Memory` where memory runs out.
+    /// `Refused` by `MissingPps` where no set with that id is in reach of its layer, and else by `MissingSps` where none with the
+    /// id that this names is, or its format isn't there. `Memory` where memory runs out.
     pub fn named(
         alloc: Global,
         sets: &SetStore,

@@ -35,8 +35,8 @@ ghost use Rattle.mv_walk_values.specs.Values.{is_segment_of, parts_of, term_of, 
 
 use mv_rebuild::Rebuild;
 
-/// While no unit breaks a rule, a history is orderly: a new picture's first segment is no segment of a decoded picture before it, and
-/// the term of a picture among the units of its sequence, by which references go, is its term (7.4.2.4.4, F.7.4.2.4.4).
+/// While no unit breaks a rule, a history is orderly: a new picture's first segment is no segment of a decoded picture before it,
+/// and the term of a picture among the units of its sequence, by which references go, is its term (7.4.2.4.4, F.7.4.2.4.4).
 pub fn histories_are_orderly()
     ensures orderly { (us : List (List ℕ)) → breaks_none (history_of us) ≡ true → IsOrderly (history_of us) }
     ensures none { (e : Judged) (past : List Judged) → IsOrderly (e ∷ past) → is_picture e.fact ≡ true → All (λ (d : Judged). d.decoded ≡ true → is_segment_of d e ≡ false) past }
@@ -52,8 +52,8 @@ pub fn a_picture_gains_its_segments<P>()
     ensures kept { (rebuild : List (Part P) → P) (e d : Judged) (past : List Judged) → is_segment_of d e ≡ false → value_of rebuild (e ∷ past) d ≡ value_of rebuild past d }
 {}
 
-/// The buffer of a layer holds the values of the pictures that are held: behind a unit that changes nothing of what is held; behind a
-/// start; behind another decoded picture, which keeps those that it names; and once the picture in the making is whole (8.3.2).
+/// The buffer of a layer holds the values of the pictures that are held: behind a unit that changes nothing of what is held; behind
+/// a start; behind another decoded picture, which keeps those that it names; and once the picture in the making is whole (8.3.2).
 pub fn buffers_hold_values<P>()
     ensures kept { (rebuild : List (Part P) → P) (l : LayerValue P) (e : Judged) (past : List Judged) (n : ℕ) (making : Option (ℤ × ℕ)) → held_of (e ∷ past) n ≡ held_of past n →
         All (λ (h : Held). is_segment_of h.it e ≡ false) (reverse (whole_held past n making)) → HoldsValues rebuild l past n making → HoldsValues rebuild l (e ∷ past) n making }
@@ -67,8 +67,8 @@ pub fn buffers_hold_values<P>()
         HoldsValues rebuild l past n (Some m) → HoldsValues rebuild (with_picture count unit pic l) past n None }
 {}
 
-/// What was shown and what waits are the values of the output pictures that are whole, in output order: as a picture is given, as one
-/// comes that stands before none that was shown, and as a sequence starts where none waits. What was shown is the first part of
+/// What was shown and what waits are the values of the output pictures that are whole, in output order: as a picture is given, as
+/// one comes that stands before none that was shown, and as a sequence starts where none waits. What was shown is the first part of
 /// all, and all of it where none waits (C.5.2).
 pub fn output_goes_in_order<P>()
     ensures given { (rebuild : List (Part P) → P) (o : ℕ) (past : List Judged) (made : Bool) (w : WaitingValue P) (shown : List (Shown × P)) (s : Stored Waits P) (rest : List (Stored Waits P)) → w.pictures ≡ s ∷ rest →
