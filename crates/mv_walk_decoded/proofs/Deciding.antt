@@ -44,7 +44,7 @@ use Rattle.mv_walk_decoded.proofs.Bounds.{actives-few, lists-few, one-few, part-
 use Rattle.mv_walk_decoded.proofs.Counting.{count-is, layer-is, own-after}
 use Rattle.mv_walk_decoded.proofs.Headers.{layers-few}
 use Rattle.mv_walk_decoded.proofs.Holding.{broken-is, five, found-is, has-count, parts-are, references-refuse-is, set-is, three}
-use Rattle.mv_walk_decoded.proofs.Listing.{cascade, judged-lists, judged-tags, lists-refuse-is}
+use Rattle.mv_walk_decoded.proofs.Listing.{cascade, judged-lists, judged-tags, lists-refuse-is, total-is}
 use Rattle.mv_walk_decoded.proofs.Lower.{first_append, first_next, first_nothing, part_after, part_before, part_long}
 use Rattle.mv_walk_decoded.proofs.Ordering.{order-refuses-is, order-stands, put-is}
 
@@ -184,6 +184,7 @@ module _ {P : Type 0} (g : Given P) (past : List Judged) (p : Fact) (asked : IsA
         zeros = ap (λ (s : InterLayerSets). s.zero) m.between_are ∙ zeros-are g past p asked few all fits valid below here;
         ones = ap (λ (s : InterLayerSets). s.one) m.between_are ∙ ones-are g past p asked few all fits valid below here;
         tags_are = judged-tags g past p asked few all fits valid below c counts full is_there nones.no_lacks between here ∙ ap tags (sym m.sizes_are);
+        total_is = ap total m.sizes_are ∙ total-is g past p asked few all fits valid below c counts full is_there nones.no_lacks between here;
         few_references = subst (λ s. total s ≤ 255) (sym m.sizes_are) (sizes-few c m.resolved.few_entries);
         lists_are = lists-by g.header.full is_there m.lists_are ∙ judged-lists g past p asked few all fits valid below c counts full is_there nones.no_lacks between here;
         few_entries = subst (λ (ls : Lists). (length ls.list0 ≤ 15) × (length ls.list1 ≤ 15)) (sym (lists-by g.header.full is_there m.lists_are)) (lists-few g.ctx g.first.head.kind g.header fits valid (made.sizes g c) full is_there);

@@ -126,7 +126,7 @@ module _ {P : Type 0} (g : Given P) (past : List Judged) (p : Fact) (asked : IsA
     sides : length (filter (λ (r : Judged × Term). is_zero_side p r.0) (inter_layer (look past p) p)) + length (filter (λ (r : Judged × Term). not (is_zero_side p r.0)) (inter_layer (look past p) p)) ≡ length (inter_layer (look past p) p)
     sides = length-filter_both (λ (r : Judged × Term). is_zero_side p r.0) (λ (r : Judged × Term). not (is_zero_side p r.0)) (λ r. refl) (inter_layer (look past p) p)
 
-    total-is : total (made.sizes g c) ≡ num_pic_total_curr p
+    pub total-is : total (made.sizes g c) ≡ num_pic_total_curr p
     total-is =
         add (made.sizes g c).before (made.sizes g c).after (made.sizes g c).long (made.sizes g c).zero (made.sizes g c).one _ _ _ _ _ befores afters longs zeros ones (length (inter_layer (look past p) p)) sides
         ∙ sym references-are

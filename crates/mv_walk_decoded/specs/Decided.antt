@@ -15,7 +15,7 @@ use Rattle.mv_pictures.specs.Held.{Held, held, match_of}
 use Rattle.mv_pictures.specs.PictureRules.{poc_mismatch}
 use Rattle.mv_pictures.specs.References.{inter_layer, is_used, is_zero_side}
 use Rattle.mv_pictures.specs.Rules.{Case, output_cases}
-use Rattle.mv_pictures.specs.SliceFields.{entries, head_of, is_put_out}
+use Rattle.mv_pictures.specs.SliceFields.{entries, head_of, is_put_out, num_pic_total_curr}
 use Rattle.mv_pictures.specs.Terms.{Tag, Term, before, after, long}
 use Rattle.mv_rps.specs.Resolving.{kept_of}
 use Rattle.mv_rps.specs.Standing.{au_kept, set_for, told}
@@ -89,6 +89,7 @@ pub record IsDecided {P : Type 0} (layers layers_after : List (LayerValue P)) (o
   pub zeros : v.inter_layer.zero ≡ layers_between (look past p) p (is_zero_side p)
   pub ones : v.inter_layer.one ≡ layers_between (look past p) p (λ d. not (is_zero_side p d))
   pub tags_are : (judged past p).tags ≡ tags v.sizes
+  pub total_is : total v.sizes ≡ num_pic_total_curr p
   pub few_references : total v.sizes ≤ 255
   pub lists_are : v.lists ≡ (judged past p).lists
   pub few_entries : (length v.lists.list0 ≤ 15) × (length v.lists.list1 ≤ 15)
