@@ -1,0 +1,11 @@
+pub mod Told
+pub mod Walking
+pub mod Decoders
+pub mod Firsts
+pub mod Laters
+pub mod Courses
+pub mod Going
+pub mod Standing
+pub mod Taking
+pub mod Ending
+pub mod Stepping
