@@ -1,5 +1,5 @@
--- The references of a picture are the values of the pictures that it refers to: those of its layer by their places in the buffer, and
--- those of other layers as the latest in theirs (8.3.2, F.8.1.6).
+-- The references of a picture are the values of the pictures that it refers to: those of its layer by their places in the buffer,
+-- and those of other layers as the latest in theirs (8.3.2, F.8.1.6).
 use Rattle.std.proofs.Common.{◌≡◌, ℕ, zero, suc, ◌+◌, ◌-◌, ◌<◌, ℤ, Bool, true, false, cond, not, ◌&&◌, ◌||◌, All, List, [], ◌∷◌, ◌++◌, length, get_or, map, reverse, Option, Some, None, refl, sym, ap, ap₂, ◌∙◌, subst, arith}
 use Rattle.std.specs.Prelude.{option_and_then, option_map, slice_get}
 use Rattle.std.specs.List.{cons_option, filter_map, find, list_all, list_any}

@@ -27,18 +27,18 @@ use Rattle.mv_walk_values.proofs.Terms.{decoded_kept, value_kept}
 
 -- ---- Lists
 
-take_drop : {A : Type 0} (n : ℕ) (xs : List A) → take n xs ++ drop n xs ≡ xs
+pub take_drop : {A : Type 0} (n : ℕ) (xs : List A) → take n xs ++ drop n xs ≡ xs
 take_drop zero xs = refl
 take_drop (suc n) [] = refl
 take_drop (suc n) (x ∷ xs) = ap (λ l. x ∷ l) (take_drop n xs)
 
-take_next : {A : Type 0} (n : ℕ) (xs rest : List A) (x : A) → drop n xs ≡ x ∷ rest → take (suc n) xs ≡ take n xs ++ x ∷ []
+pub take_next : {A : Type 0} (n : ℕ) (xs rest : List A) (x : A) → drop n xs ≡ x ∷ rest → take (suc n) xs ≡ take n xs ++ x ∷ []
 take_next zero [] rest x h = absurd cc
 take_next zero (y ∷ ys) rest x h = ap (λ z. z ∷ []) (let same : y ≡ x = cc in same)
 take_next (suc n) [] rest x h = absurd cc
 take_next (suc n) (y ∷ ys) rest x h = ap (λ l. y ∷ l) (take_next n ys rest x h)
 
-drop_next : {A : Type 0} (n : ℕ) (xs rest : List A) (x : A) → drop n xs ≡ x ∷ rest → drop (suc n) xs ≡ rest
+pub drop_next : {A : Type 0} (n : ℕ) (xs rest : List A) (x : A) → drop n xs ≡ x ∷ rest → drop (suc n) xs ≡ rest
 drop_next zero [] rest x h = absurd cc
 drop_next zero (y ∷ ys) rest x h = let same : ys ≡ rest = cc in same
 drop_next (suc n) [] rest x h = absurd cc
@@ -98,18 +98,18 @@ same_whole_later o e past made h = ap (λ b. cond made (drop 1 (cond b (e ∷ fi
 
 -- ---- A picture is given
 
-none_waits : {P : Type 0} (rebuild : List (Part P) → P) (past ds : List Judged) → [] ≡ map (queued rebuild past) ds → ds ≡ []
+pub none_waits : {P : Type 0} (rebuild : List (Part P) → P) (past ds : List Judged) → [] ≡ map (queued rebuild past) ds → ds ≡ []
 none_waits rebuild past [] h = refl
 none_waits rebuild past (d ∷ ds) h = absurd cc
 
-record First {P : Type 0} (rebuild : List (Part P) → P) (past ds : List Judged) (s : Stored Waits P) (rest : List (Stored Waits P)) : Type 0 where
+pub record First {P : Type 0} (rebuild : List (Part P) → P) (past ds : List Judged) (s : Stored Waits P) (rest : List (Stored Waits P)) : Type 0 where
   pub one : Judged
   pub others : List Judged
   pub are : ds ≡ one ∷ others
   pub it : queued_of s ≡ queued rebuild past one
   pub behind : map queued_of rest ≡ map (queued rebuild past) others
 
-first_waits : {P : Type 0} (rebuild : List (Part P) → P) (past ds : List Judged) (s : Stored Waits P) (rest : List (Stored Waits P)) → map queued_of (s ∷ rest) ≡ map (queued rebuild past) ds → First rebuild past ds s rest
+pub first_waits : {P : Type 0} (rebuild : List (Part P) → P) (past ds : List Judged) (s : Stored Waits P) (rest : List (Stored Waits P)) → map queued_of (s ∷ rest) ≡ map (queued rebuild past) ds → First rebuild past ds s rest
 first_waits rebuild past [] s rest h = absurd cc
 first_waits {P} rebuild past (d ∷ ds) s rest h =
     record {
@@ -168,24 +168,24 @@ abbrev within : Judged → Judged → Bool
 within a b = int_lt (count_of a) (count_of b) || (int_eq (count_of a) (count_of b) && (nat_lt (au a.fact) (au b.fact) || (nat_eq (au a.fact) (au b.fact) && nat_lt (layer a.fact) (layer b.fact))))
 
 -- output order of two pictures of one sequence is that of the pictures that wait (C.5.2.4)
-same_order : {P : Type 0} (rebuild : List (Part P) → P) (past : List Judged) (a b : Judged) → a.sequence ≡ b.sequence → is_before a b ≡ is_first (queued rebuild past a) (queued rebuild past b)
+pub same_order : {P : Type 0} (rebuild : List (Part P) → P) (past : List Judged) (a b : Judged) → a.sequence ≡ b.sequence → is_before a b ≡ is_first (queued rebuild past a) (queued rebuild past b)
 unfolding is_before decoded_of
 same_order rebuild past a b same =
     ap (λ n. nat_lt a.sequence n || (nat_eq a.sequence n && within a b)) (sym same)
     ∙ ap₂ (λ s t. s || (t && within a b)) (lt_itself a.sequence) (eq-eqb a.sequence a.sequence refl)
 
-put_agrees : {A : Type 0} (lt other : A → A → Bool) (a : A) (xs : List A) → Agree lt other xs a → put lt a xs ≡ put other a xs
+pub put_agrees : {A : Type 0} (lt other : A → A → Bool) (a : A) (xs : List A) → Agree lt other xs a → put lt a xs ≡ put other a xs
 unfolding put
 put_agrees lt other a [] h = refl
 put_agrees lt other a (x ∷ xs) h =
     ap (λ b. cond b (a ∷ x ∷ xs) (x ∷ put lt a xs)) (All-head (λ x. lt a x ≡ other a x) x xs h)
     ∙ ap (λ l. cond (other a x) (a ∷ x ∷ xs) (x ∷ l)) (put_agrees lt other a xs (All-tail (λ x. lt a x ≡ other a x) x xs h))
 
-take_all : {A : Type 0} (xs ys : List A) → take (length xs) (xs ++ ys) ≡ xs
+pub take_all : {A : Type 0} (xs ys : List A) → take (length xs) (xs ++ ys) ≡ xs
 take_all [] ys = refl
 take_all (x ∷ xs) ys = ap (λ l. x ∷ l) (take_all xs ys)
 
-drop_all : {A : Type 0} (xs ys : List A) → drop (length xs) (xs ++ ys) ≡ ys
+pub drop_all : {A : Type 0} (xs ys : List A) → drop (length xs) (xs ++ ys) ≡ ys
 drop_all [] ys = refl
 drop_all (x ∷ xs) ys = drop_all xs ys
 
@@ -271,3 +271,29 @@ shows_first {P} rebuild o past q shown shows = (
       ∙ map-append (λ (t : Decoded). (shown_of t, value rebuild t.term)) (map (decoded_of past) (take shows.left (in_order o past false))) (map (decoded_of past) (drop shows.left (in_order o past false)))
       ∙ ap (λ before. before ++ showings rebuild (map (decoded_of past) (drop shows.left (in_order o past false)))) (sym shows.shown_are),
 )
+
+-- ---- How many were shown of all
+
+pub given_left : {P : Type 0} (rebuild : List (Part P) → P) (o : ℕ) (past : List Judged) (made : Bool) (w : WaitingValue P) (shown : List (Shown × P)) (s : Stored Waits P) (rest : List (Stored Waits P)) → (waits : w.pictures ≡ s ∷ rest) →
+    (shows : ShowsValues rebuild o past made (Some w) shown) → (shows_given rebuild o past made w shown s rest waits shows).left ≡ suc shows.left
+unfolding shows_given
+given_left rebuild o past made w shown s rest waits shows = refl
+
+pub pushed_left : {P : Type 0} (rebuild : List (Part P) → P) (o : ℕ) (past : List Judged) (w : WaitingValue P) (shown : List (Shown × P)) (x : Judged) (rest : List Judged) (told_x : Shown) (unit_x : ℕ) (pic : P) →
+    (outputs : filter (is_output o) past ≡ x ∷ rest) → (latest : x.sequence ≡ latest_sequence past) → (told_is : told_x ≡ shown_of (decoded_of past x)) → (unit_is : unit_x ≡ au x.fact) → (pic_is : pic ≡ value_of rebuild past x) →
+    (shows : ShowsValues rebuild o past true (Some w) shown) → (behind : list_any (is_before x) (take shows.left (in_order o past true)) ≡ false) →
+    (shows_pushed rebuild o past w shown x rest told_x unit_x pic outputs latest told_is unit_is pic_is shows behind).left ≡ length (take shows.left (in_order o past true))
+unfolding shows_pushed
+pushed_left rebuild o past w shown x rest told_x unit_x pic outputs latest told_is unit_is pic_is shows behind = refl
+
+pub kept_left : {P : Type 0} (rebuild : List (Part P) → P) (o : ℕ) (e : Judged) (past : List Judged) (made making : Bool) (q : Option (WaitingValue P)) (shown : List (Shown × P)) →
+    (same : in_order o (e ∷ past) making ≡ in_order o past made) → (none : All (λ d. is_segment_of d e ≡ false) (in_order o past made)) → (number : latest_sequence (e ∷ past) ≡ latest_sequence past) →
+    (shows : ShowsValues rebuild o past made q shown) → (shows_kept rebuild o e past made making q shown same none number shows).left ≡ shows.left
+unfolding shows_kept
+kept_left rebuild o e past made making q shown same none number shows = refl
+
+pub begun_left : {P : Type 0} (rebuild : List (Part P) → P) (o : ℕ) (e : Judged) (past : List Judged) (made making : Bool) (q new : Option (WaitingValue P)) (shown : List (Shown × P)) →
+    (same : in_order o (e ∷ past) making ≡ in_order o past made) → (none : All (λ d. is_segment_of d e ≡ false) (in_order o past made)) → (empty : pictures_in q ≡ []) → (fresh : pictures_in new ≡ []) →
+    (shows : ShowsValues rebuild o past made q shown) → (shows_begun rebuild o e past made making q new shown same none empty fresh shows).left ≡ shows.left
+unfolding shows_begun
+begun_left rebuild o e past made making q new shown same none empty fresh shows = refl

@@ -30,11 +30,11 @@ pub fact_is : (past : List Judged) (p : Fact) → (judged past p).fact ≡ p
 unfolding judged judgement
 fact_is past p = refl
 
-no_output : (o : ℕ) (d : Judged) → d.decoded ≡ false → is_output o d ≡ false
+pub no_output : (o : ℕ) (d : Judged) → d.decoded ≡ false → is_output o d ≡ false
 unfolding is_output
 no_output o d h = ap (λ b. b && is_among (outputs d.seq_vps o) (layer d.fact) && is_put_out d.fact) h
 
-every : {A : Type 0} (Q : A → Type 0) → ((x : A) → Q x) → (xs : List A) → All Q xs
+pub every : {A : Type 0} (Q : A → Type 0) → ((x : A) → Q x) → (xs : List A) → All Q xs
 every Q h [] = All-nil Q
 every Q h (x ∷ xs) = All-cons Q x xs (h x) (every Q h xs)
 

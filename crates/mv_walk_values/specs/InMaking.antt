@@ -10,8 +10,8 @@ use Rattle.mv_rebuild.specs.Parts.{Making}
 use Rattle.mv_rebuild.specs.Value.{shown_of}
 use Rattle.mv_walk_values.specs.Values.{parts_of, term_of}
 
--- a picture in the making: the work on it so far, what is shown of it where it is put out, the number of its access unit, and whether
--- the output layer set that is asked for puts it out
+-- a picture in the making: the work on it so far, what is shown of it where it is put out, the number of its access unit, and
+-- whether the output layer set that is asked for puts it out
 pub record MadeValue (W : Type 0) : Type 0 where
   pub work : W
   pub shown : Shown

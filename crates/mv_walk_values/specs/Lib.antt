@@ -4,3 +4,7 @@ pub mod InMaking
 pub mod Showing
 pub mod Orderly
 pub mod Standing
+pub mod Beginning
+pub mod Coming
+pub mod Timely
+pub mod InTime

@@ -2,4 +2,7 @@
 //! program that goes from unit to unit.
 #![tactic(auto)]
 
+pub mod in_time;
 pub mod laws;
+pub mod sequence_laws;
+pub mod steps;
