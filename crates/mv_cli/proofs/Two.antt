@@ -1,5 +1,5 @@
 -- A list of one or two texts, by its elements.
-use Rattle.std.proofs.Common.{◌≡◌, ℕ, ◌<◌, ◌≤◌, Bool, true, List, [], ◌∷◌, length, get_or, map, ap, ◌∙◌, sym, arith}
+use Rattle.std.proofs.Common.{◌≡◌, ℕ, ◌<◌, ◌≤◌, Bool, List, [], ◌∷◌, length, get_or, map, ap, ◌∙◌, sym, arith}
 use Rattle.std.specs.Prelude.{◌↔◌, IsTrue}
 use Rattle.std.specs.Str.{bytes_eq}
 use Rattle.std.proofs.lemmas.Slice.Eq.{bytes_eq-Decides}
@@ -10,12 +10,9 @@ two f (a ∷ []) x y low high ex ey = absurd (omega arith)
 two f (a ∷ b ∷ []) x y low high ex ey = ap (λ v. f v ∷ f b ∷ []) (sym ex) ∙ ap (λ v. f x ∷ f v ∷ []) (sym ey)
 two f (a ∷ b ∷ c ∷ xs) x y low high ex ey = absurd (omega arith)
 
--- where the first of two texts is the wanted one, the test of the second decides whether both are
-pub both : (ws : List (List ℕ)) (x y xn yn p q : List ℕ) (r : Bool) → ws ≡ x ∷ y ∷ [] → xn ≡ x → yn ≡ y → true ≡ bytes_eq xn p → r ≡ bytes_eq yn q → IsTrue r ↔ (ws ≡ p ∷ q ∷ [])
-both ws x y xn yn p q r two ex ey first second = (
-  λ h. two ∙ ap (λ v. v ∷ y ∷ []) (sym ex ∙ (bytes_eq-Decides xn p).0 (sym first)) ∙ ap (λ v. p ∷ v ∷ []) (sym ey ∙ (bytes_eq-Decides yn q).0 (sym second ∙ h)),
-  λ same. let parts : x ∷ y ∷ [] ≡ p ∷ q ∷ [] = sym two ∙ same in let last : y ≡ q = cc in second ∙ (bytes_eq-Decides yn q).1 (ey ∙ last),
-)
+-- the same by other names of the two
+pub pair : (ws : List (List ℕ)) (x y xn yn : List ℕ) → ws ≡ x ∷ y ∷ [] → xn ≡ x → yn ≡ y → xn ∷ yn ∷ [] ≡ ws
+pair ws x y xn yn two ex ey = ap (λ v. v ∷ yn ∷ []) ex ∙ ap (λ v. x ∷ v ∷ []) ey ∙ sym two
 
 -- a list of one
 pub one : {A : Type 0} (f : A → List ℕ) (xs : List A) (x : A) → 1 ≤ length xs → length xs < 2 → x ≡ get_or xs 0 x → map f xs ≡ f x ∷ []

@@ -18,6 +18,13 @@ pub enum Ending {
     WriteFault,
     /// The allocator refused memory.
     NoMemory,
+    /// A video parameter set hasn't the output layer set that was asked for, but `count` of them.
+    NoSuchSet {
+        /// The number of the set that was asked for.
+        asked: u32,
+        /// How many sets the video parameter set has.
+        count: u32,
+    },
     /// The input has more bytes than the limit.
     TooLong,
 }
@@ -32,6 +39,7 @@ impl Ending {
         match answer {
             Ok(_) => Ending::Done,
             Err(ExtractError::Refused(refusal)) => Ending::Refused(refusal),
+            Err(ExtractError::NoSuchSet { asked, count }) => Ending::NoSuchSet { asked, count },
             Err(ExtractError::Read) => Ending::ReadFault,
             Err(ExtractError::Write) => Ending::WriteFault,
             Err(ExtractError::TooLong) => Ending::TooLong,
@@ -50,6 +58,7 @@ impl Ending {
             Ending::ReadFault => 3,
             Ending::WriteFault => 4,
             Ending::NoMemory => 5,
+            Ending::NoSuchSet { asked: _, count: _ } => 6,
             Ending::TooLong => 7,
         }
     }

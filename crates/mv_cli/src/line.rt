@@ -6,18 +6,19 @@ ghost use Rattle.arrayvec.specs.ArrayString.{array_string_len};
 ghost use Rattle.mv_rules.specs.Rule.{rule_name};
 ghost use Rattle.mv_io.specs.Call.{output_of};
 ghost use Rattle.mv_cli.specs.Answers.{Tells};
-ghost use Rattle.mv_cli.specs.Ending.{line_of, refusal_line};
+ghost use Rattle.mv_cli.specs.Ending.{accepted_line, lacking_line, line_of, refusal_line};
 
 use crate::ending::Ending;
 use arrayvec::ArrayString;
 use itoa::Buffer;
 use mv_io::{Sink, write_all};
 use mv_rules::{Refusal, Rule};
+use mv_walk::Totals;
 
-/// The room for the line of a refusal, in bytes.
+/// The room for a line, in bytes.
 const ROOM: usize = 160;
 
-type Line = ArrayString<ROOM>;
+pub type Line = ArrayString<ROOM>;
 
 /// Writes the line of an ending. A write that fails is left aside.
 pub fn tell<E: Sink>(faults: &mut E, ending: &Ending)
@@ -35,6 +36,7 @@ pub fn tell<E: Sink>(faults: &mut E, ending: &Ending)
         Ending::ReadFault => tell_text(faults, "read fault\n"),
         Ending::WriteFault => tell_text(faults, "write fault\n"),
         Ending::NoMemory => tell_text(faults, "no memory\n"),
+        Ending::NoSuchSet { asked, count } => tell_text(faults, lacking(*asked, *count).as_str()),
         Ending::TooLong => tell_text(faults, "too long\n"),
     }
 }
@@ -61,6 +63,38 @@ fn describe(refusal: &Refusal) -> Line
     push_number(&mut line, refusal.rule.number() as u64);
     line.push_str(" ");
     push_rule(&mut line, &refusal.rule);
+    line.push_str("\n");
+    line
+}
+
+// The line of a set that is lacking.
+fn lacking(asked: u32, count: u32) -> Line
+    ensures { result.bytes ≡ lacking_line asked count }
+{
+    let mut line = Line::new();
+    line.push_str("no such set: ");
+    push_number(&mut line, asked as u64);
+    line.push_str(" of ");
+    push_number(&mut line, count as u64);
+    line.push_str("\n");
+    line
+}
+
+/// The line of an accepted stream.
+pub fn accepted(totals: &Totals) -> Line
+    ensures { result.bytes ≡ accepted_line totals.now }
+{
+    let mut line = Line::new();
+    line.push_str("accepted: units ");
+    push_number(&mut line, totals.units);
+    line.push_str(" pictures ");
+    push_number(&mut line, totals.pictures);
+    line.push_str(" sequences ");
+    push_number(&mut line, totals.sequences);
+    line.push_str(" layers ");
+    push_number(&mut line, totals.layers as u64);
+    line.push_str(" sets ");
+    push_number(&mut line, totals.sets as u64);
     line.push_str("\n");
     line
 }

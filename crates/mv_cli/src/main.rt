@@ -1,5 +1,6 @@
-//! mv_cli, an extractor of sub-bitstreams of MV-HEVC byte streams: `mv_cli extract 0` reads a byte stream
-//! from the standard input, and writes the units of its base layer on the standard output as they come.
+//! mv_cli, an extractor of sub-bitstreams of MV-HEVC byte streams: `mv_cli extract N` reads a byte stream
+//! from the standard input, checks it, and writes the units that are kept for output layer set N on the standard output as
+//! they come; `mv_cli check` checks it alone, and writes its totals.
 //! `pack` and `unpack` carry units to the length-prefixed form and back.
 #![tactic(auto)]
 
@@ -11,6 +12,8 @@ mod run;
 mod tests;
 #[cfg(test)]
 mod two_view_tests;
+#[cfg(test)]
+mod verdict_tests;
 
 use mv_io::{Buffered, StdSink, StdSource};
 pub use run::{run, run_within};

@@ -1,4 +1,5 @@
 use crate::run::run_within;
+use crate::two_view_tests::ONES;
 use mv_io::{MemSink, MemSource, Source};
 use std::alloc::Global;
 use std::process::Abort;
@@ -6,7 +7,10 @@ use std::test::Fail;
 
 const TWELVE: [u8; 12] = [0, 0, 1, 0x40, 1, 0xAA, 0, 0, 1, 2, 9, 0xBB];
 
-const SEVEN: [u8; 7] = [0, 0, 0, 1, 0x40, 1, 0xAA];
+// Two access unit delimiters, and one of them framed.
+const DELIMITERS: [u8; 12] = [0, 0, 1, 0x46, 1, 0x50, 0, 0, 1, 0x46, 1, 0x50];
+
+const FRAMED_DELIMITER: [u8; 7] = [0, 0, 0, 1, 0x46, 1, 0x50];
 
 const USAGE: &str =
     "usage: mv_cli extract N | digest N [format1] | check | show | gen NUMBER COUNT [sum] | pack | unpack\n";
@@ -28,15 +32,15 @@ pub struct Row<'a> {
 
 pub const PLAIN: Row<'static> = Row {
     words: &["extract", "0"],
-    input: &TWELVE,
+    input: &[],
     limit: 1000,
     pieces: &[],
     failing_reads: &[],
     failing_writes: &[],
     failing_faults: &[],
-    status: 0,
-    output: &SEVEN,
-    line: "",
+    status: 1,
+    output: &[],
+    line: "refused: unit 0 at byte 0: rule 73 NoPicture\n",
 };
 
 // What came out of a run.
@@ -71,68 +75,131 @@ pub fn check(rt: &impl Abort, alloc: Global, row: &Row) -> Result<(), Fail> {
     Ok(())
 }
 
+// Runs the words on an input in pieces.
+fn answers_in(
+    rt: &impl Abort,
+    alloc: Global,
+    words: &[&str],
+    input: &[u8],
+    pieces: &[u32],
+    status: u8,
+    output: &[u8],
+    line: &str,
+) -> Result<(), Fail> {
+    let mut texts = Vec::new(alloc);
+    for word in words {
+        texts.push(String::from_str(alloc, word)?)?;
+    }
+    let mut source = MemSource::new(alloc, input, pieces, &[])?;
+    let mut written = MemSink::new(alloc, 1000, &[])?;
+    let mut faults = MemSink::new(alloc, 1000, &[])?;
+    let answered = run_within(alloc, &texts, &mut source, &mut written, &mut faults, 1000);
+    assert_eq!(rt; answered, status);
+    assert_eq!(rt; written.bytes(), output);
+    assert_eq!(rt; faults.bytes(), line.as_bytes());
+    Ok(())
+}
+
+// Runs the words on an input, in one piece and in pieces of one byte.
+fn answers(
+    rt: &impl Abort,
+    alloc: Global,
+    words: &[&str],
+    input: &[u8],
+    status: u8,
+    output: &[u8],
+    line: &str,
+) -> Result<(), Fail> {
+    answers_in(rt, alloc, words, input, &[], status, output, line)?;
+    answers_in(rt, alloc, words, input, &ONES, status, output, line)
+}
+
+fn refused(
+    rt: &impl Abort,
+    alloc: Global,
+    input: &[u8],
+    output: &[u8],
+    line: &str,
+) -> Result<(), Fail> {
+    answers(rt, alloc, &["extract", "0"], input, 1, output, line)
+}
+
 #[test]
 fn streams(rt: HostRuntime) -> Result<(), Fail> {
-    let leading = [0xFF, 0, 0, 1, 0x46, 1, 0x50];
+    let alloc = rt.alloc();
+    let none = "refused: unit 0 at byte 0: rule 73 NoPicture\n";
+    refused(&rt, alloc, &[], &[], none)?;
+    answers(&rt, alloc, &["check"], &[], 1, &[], none)?;
+    refused(
+        &rt,
+        alloc,
+        &TWELVE,
+        &[],
+        "refused: unit 0 at byte 3: rule 11 ExternalBase\n",
+    )?;
+    refused(
+        &rt,
+        alloc,
+        &[0, 0, 1, 0xC0, 1],
+        &[],
+        "refused: unit 0 at byte 3: rule 5 Head\n",
+    )?;
+    refused(
+        &rt,
+        alloc,
+        &[0xFF, 0, 0, 1, 0x46, 1, 0x50],
+        &[],
+        "refused: unit 0 at byte 0: rule 1 Leading\n",
+    )?;
+    refused(
+        &rt,
+        alloc,
+        &[0, 0, 1, 0x46],
+        &[],
+        "refused: unit 0 at byte 3: rule 2 Short\n",
+    )?;
+    refused(
+        &rt,
+        alloc,
+        &[0, 0, 1, 0x46, 1, 0x50, 0, 0, 1, 0x46],
+        &FRAMED_DELIMITER,
+        "refused: unit 1 at byte 9: rule 2 Short\n",
+    )?;
+    refused(
+        &rt,
+        alloc,
+        &[0, 0, 1, 0x26, 1, 0, 0, 2, 0xD0],
+        &[],
+        "refused: unit 0 at byte 3: rule 3 Emulation\n",
+    )
+}
+
+#[test]
+fn ends_at_the_limit(rt: HostRuntime) -> Result<(), Fail> {
     let zeros = [0; 11];
+    let long = Row {
+        input: &zeros,
+        limit: 10,
+        status: 7,
+        line: "too long\n",
+        ..PLAIN
+    };
+    let full = Row {
+        input: &zeros[..10],
+        limit: 10,
+        line: "refused: unit 0 at byte 10: rule 73 NoPicture\n",
+        ..PLAIN
+    };
     let rows = [
-        PLAIN,
+        long,
         Row {
-            pieces: &[1, 1, 1, 1, 1, 1, 1, 1, 1, 1, 1, 1],
-            ..PLAIN
+            pieces: &ONES,
+            ..long
         },
+        full,
         Row {
-            input: &[],
-            output: &[],
-            ..PLAIN
-        },
-        Row {
-            input: &[0, 0, 1, 0xC0, 1],
-            status: 1,
-            output: &[],
-            line: "refused: unit 0 at byte 3: rule 5 Head\n",
-            ..PLAIN
-        },
-        Row {
-            input: &leading,
-            status: 1,
-            output: &[],
-            line: "refused: unit 0 at byte 0: rule 1 Leading\n",
-            ..PLAIN
-        },
-        Row {
-            input: &[0, 0, 1, 0x46],
-            status: 1,
-            output: &[],
-            line: "refused: unit 0 at byte 3: rule 2 Short\n",
-            ..PLAIN
-        },
-        Row {
-            input: &[0, 0, 1, 0x40, 1, 0xAA, 0, 0, 1, 0x46],
-            status: 1,
-            line: "refused: unit 1 at byte 9: rule 2 Short\n",
-            ..PLAIN
-        },
-        Row {
-            input: &[0, 0, 1, 0x26, 1, 0, 0, 2, 0xD0],
-            status: 1,
-            output: &[],
-            line: "refused: unit 0 at byte 3: rule 3 Emulation\n",
-            ..PLAIN
-        },
-        Row {
-            input: &zeros,
-            limit: 10,
-            status: 7,
-            output: &[],
-            line: "too long\n",
-            ..PLAIN
-        },
-        Row {
-            input: &zeros[..10],
-            limit: 10,
-            output: &[],
-            ..PLAIN
+            pieces: &ONES,
+            ..full
         },
     ];
     for row in &rows {
@@ -145,127 +212,122 @@ static PACKED: [u8; 14] = [0, 0, 0, 3, 0x40, 1, 0xAA, 0, 0, 0, 3, 2, 9, 0xBB];
 
 static FRAMED: [u8; 14] = [0, 0, 0, 1, 0x40, 1, 0xAA, 0, 0, 0, 1, 2, 9, 0xBB];
 
-static ONES: [u32; 14] = [1; 14];
-
 #[test]
 fn units_behind_their_lengths(rt: HostRuntime) -> Result<(), Fail> {
-    let packs = Row {
+    let alloc = rt.alloc();
+    answers(&rt, alloc, &["pack"], &TWELVE, 0, &PACKED, "")?;
+    answers(&rt, alloc, &["unpack"], &PACKED, 0, &FRAMED, "")?;
+    answers(&rt, alloc, &["unpack"], &[], 0, &[], "")
+}
+
+fn refused_unpacked(rt: &impl Abort, alloc: Global, input: &[u8], line: &str) -> Result<(), Fail> {
+    answers(rt, alloc, &["unpack"], input, 1, &[], line)
+}
+
+#[test]
+fn refuses_units_behind_their_lengths(rt: HostRuntime) -> Result<(), Fail> {
+    let alloc = rt.alloc();
+    refused_unpacked(
+        &rt,
+        alloc,
+        &PACKED[..6],
+        "refused: unit 0 at byte 6: rule 90 Truncated\n",
+    )?;
+    refused_unpacked(
+        &rt,
+        alloc,
+        &[0, 0, 0, 6, 0x40, 1, 0, 0, 1, 0xAA],
+        "refused: unit 0 at byte 4: rule 91 InnerCode\n",
+    )?;
+    refused_unpacked(
+        &rt,
+        alloc,
+        &[0, 0, 0, 3, 0x40, 1, 0],
+        "refused: unit 0 at byte 4: rule 92 LastZero\n",
+    )
+}
+
+#[test]
+fn faults_with_units_behind_their_lengths(rt: HostRuntime) -> Result<(), Fail> {
+    let unread = Row {
         words: &["pack"],
-        output: &PACKED,
+        input: &TWELVE,
+        failing_reads: &[0],
+        status: 3,
+        line: "read fault\n",
         ..PLAIN
     };
-    let unpacks = Row {
+    let unwritten = Row {
         words: &["unpack"],
         input: &PACKED,
-        output: &FRAMED,
+        failing_writes: &[3],
+        status: 4,
+        output: &FRAMED[..11],
+        line: "write fault\n",
         ..PLAIN
     };
     let rows = [
-        packs,
-        unpacks,
+        unread,
         Row {
-            failing_reads: &[0],
-            status: 3,
-            line: "read fault\n",
-            output: &[],
-            ..packs
+            pieces: &ONES,
+            ..unread
         },
+        unwritten,
         Row {
-            failing_writes: &[3],
-            status: 4,
-            line: "write fault\n",
-            output: &FRAMED[..11],
-            ..unpacks
-        },
-        Row {
-            input: &PACKED[..6],
-            status: 1,
-            line: "refused: unit 0 at byte 6: rule 90 Truncated\n",
-            output: &[],
-            ..unpacks
-        },
-        Row {
-            input: &[0, 0, 0, 6, 0x40, 1, 0, 0, 1, 0xAA],
-            status: 1,
-            line: "refused: unit 0 at byte 4: rule 91 InnerCode\n",
-            output: &[],
-            ..unpacks
-        },
-        Row {
-            input: &[0, 0, 0, 3, 0x40, 1, 0],
-            status: 1,
-            line: "refused: unit 0 at byte 4: rule 92 LastZero\n",
-            output: &[],
-            ..unpacks
-        },
-        Row {
-            input: &[],
-            output: &[],
-            ..unpacks
+            pieces: &ONES,
+            ..unwritten
         },
     ];
     for row in &rows {
         check(&rt, rt.alloc(), row)?;
-        check(
-            &rt,
-            rt.alloc(),
-            &Row {
-                pieces: &ONES,
-                ..*row
-            },
-        )?;
     }
     Ok(())
 }
 
 #[test]
 fn faults(rt: HostRuntime) -> Result<(), Fail> {
-    let head = [0, 0, 1, 0xC0, 1];
+    let plain = Row {
+        input: &DELIMITERS,
+        output: &FRAMED_DELIMITER,
+        status: 3,
+        line: "read fault\n",
+        ..PLAIN
+    };
     let rows = [
         Row {
             failing_reads: &[0],
-            status: 3,
             output: &[],
-            line: "read fault\n",
-            ..PLAIN
+            ..plain
         },
         Row {
             failing_reads: &[1],
-            status: 3,
-            line: "read fault\n",
-            ..PLAIN
+            ..plain
         },
         Row {
             failing_writes: &[0],
             status: 4,
             output: &[],
             line: "write fault\n",
-            ..PLAIN
+            ..plain
         },
         Row {
             failing_writes: &[1],
             status: 4,
-            output: &SEVEN[..4],
+            output: &FRAMED_DELIMITER[..4],
             line: "write fault\n",
-            ..PLAIN
+            ..plain
         },
         Row {
-            failing_writes: &[2],
-            ..PLAIN
-        },
-        Row {
-            input: &head,
             failing_faults: &[0],
-            status: 1,
-            output: &[],
+            line: "",
             ..PLAIN
         },
         Row {
             failing_reads: &[0],
             failing_faults: &[0],
-            status: 3,
             output: &[],
-            ..PLAIN
+            line: "",
+            ..plain
         },
     ];
     for row in &rows {
@@ -274,58 +336,55 @@ fn faults(rt: HostRuntime) -> Result<(), Fail> {
     Ok(())
 }
 
+// Runs other words on ends that fail.
+fn answers_usage(rt: &impl Abort, alloc: Global, words: &[&str]) -> Result<(), Fail> {
+    let mut texts = Vec::new(alloc);
+    for word in words {
+        texts.push(String::from_str(alloc, word)?)?;
+    }
+    let mut input = MemSource::new(alloc, &[], &[], &[0])?;
+    let mut output = MemSink::new(alloc, 1000, &[0])?;
+    let mut faults = MemSink::new(alloc, 1000, &[])?;
+    let status = run_within(alloc, &texts, &mut input, &mut output, &mut faults, 1000);
+    assert_eq!(rt; status, 2);
+    assert_eq!(rt; output.bytes().len(), 0);
+    assert_eq!(rt; faults.bytes(), USAGE.as_bytes());
+    Ok(())
+}
+
 #[test]
 fn other_words(rt: HostRuntime) -> Result<(), Fail> {
-    let usage = Row {
-        failing_reads: &[0],
-        failing_writes: &[0],
-        status: 2,
-        output: &[],
-        line: USAGE,
-        ..PLAIN
-    };
-    let rows = [
-        Row {
-            words: &[],
-            ..usage
-        },
-        Row {
-            words: &["extract"],
-            ..usage
-        },
-        Row {
-            words: &["extract", "1"],
-            ..usage
-        },
-        Row {
-            words: &["extract", "00"],
-            ..usage
-        },
-        Row {
-            words: &["extract", "0", "0"],
-            ..usage
-        },
-        Row {
-            words: &["digest", "0"],
-            ..usage
-        },
-        Row {
-            words: &["-h"],
-            ..usage
-        },
-        Row {
-            words: &["help"],
-            ..usage
-        },
-        Row {
-            words: &["check"],
-            failing_faults: &[0],
-            line: "",
-            ..usage
-        },
+    let forms: [&[&str]; 15] = [
+        &[],
+        &["extract"],
+        &["extract", ""],
+        &["extract", "x"],
+        &["extract", "-1"],
+        &["extract", "+1"],
+        &["extract", "4294967296"],
+        &["extract", "00000000000"],
+        &["extract", "0", "0"],
+        &["check", "0"],
+        &["digest", "0"],
+        &["gen", "7", "0"],
+        &["-h"],
+        &["--help"],
+        &["help"],
     ];
-    for row in &rows {
-        check(&rt, rt.alloc(), row)?;
+    for words in &forms {
+        answers_usage(&rt, rt.alloc(), words)?;
     }
-    Ok(())
+    check(
+        &rt,
+        rt.alloc(),
+        &Row {
+            words: &["show"],
+            failing_reads: &[0],
+            failing_writes: &[0],
+            failing_faults: &[0],
+            status: 2,
+            line: "",
+            ..PLAIN
+        },
+    )
 }

@@ -1,4 +1,10 @@
+pub mod Accepted
+pub mod Commuted
 pub mod Ended
+pub mod Extractions
 pub mod Kept
+pub mod Lacking
 pub mod Settled
-pub mod Sound
+pub mod Unwritten
+pub mod Visited
+pub mod Walked

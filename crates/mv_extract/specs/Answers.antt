@@ -1,19 +1,19 @@
 -- The answers of a call that does a task of the units of a byte string on a sink (this project's profile): when each
 -- comes, and what it leaves. They are stated for any form in which the units come, any task, and any total of the
 -- units that is answered where all were accepted.
-use Rattle.std.specs.Prelude.{ℕ, ◌≡◌, ◌≤◌, Bool, true, false, List, [], ◌∷◌, ◌++◌, length, take, Option, None, Some, IfSome, Result, Ok, Err, ⊤}
-use Rattle.mv_rules.specs.declared.refusal.Refusal.{Refusal}
+use Rattle.std.specs.Prelude.{ℕ, ◌≡◌, ◌≤◌, ◌<◌, Bool, true, false, List, [], ◌∷◌, ◌++◌, length, take, Option, None, Some, IfSome, Result, Ok, Err, ⊤}
 use Rattle.mv_io.specs.Call.{Input, Output, InputRose, OutputRose, Took}
 use Rattle.mv_io.specs.Sink.{Appends, AppendsPrefix}
 use Rattle.mv_units.specs.Shown.{StartsWith}
 use Rattle.mv_units.specs.Units.{NalUnit}
+use Rattle.mv_judging.specs.declared.stop.Objection.{Objection}
 use Rattle.mv_judging.specs.declared.stop.Stop.{Stop}
 use Rattle.mv_judging.specs.Event.{Due, Accepts as Accepted, Stops, Exceeds, ShowNothing, ShowsBy, due, event, refused_at}
 use Rattle.mv_judging.specs.Format.{Format}
 use Rattle.mv_judging.specs.Judge.{Judge, judged}
 use Rattle.mv_engine.specs.Driven.{largest_piece}
 use Rattle.mv_extract.specs.declared.error.ExtractError.{ExtractError}
-use Rattle.mv_extract.specs.declared.error.ExtractError.TheVariants.{Refused, Read, Write, TooLong, Memory}
+use Rattle.mv_extract.specs.declared.error.ExtractError.TheVariants.{Refused, NoSuchSet, Read, Write, TooLong, Memory}
 use Rattle.mv_extract.specs.Task.{Task}
 
 -- the bytes taken decide an event: where the end was read after them it is theirs, and else every byte
@@ -42,18 +42,18 @@ pub record Accepts {T : Type 0} (f : Format) (task : Task) (total : List NalUnit
   pub writes : Appends output.old.taken output.new.taken (task.text (f.whole true taken))
   pub answers : answer ≡ total (f.whole true taken)
 
--- refused: the bytes taken decide that the string is refused, with no read after that, and the sink gained the text
--- of the units before the refused one
-pub record Refuses (f : Format) (task : Task) (limit : ℕ) (input : Input) (output : Output) (refusal : Refusal) : Type 0 where
+-- Refused, NoSuchSet: the bytes taken decide that the string is stopped there, with no read after that, and the sink
+-- gained the text of the units before that one
+pub record Halts (f : Format) (task : Task) (limit : ℕ) (input : Input) (output : Output) (stop : Stop) : Type 0 where
   pub taken : List ℕ
   pub ended : Bool
   pub took : Took input taken ended
   pub within : length taken ≤ limit
-  pub refused : Decide f task.judge taken ended (Some (refused_at refusal))
+  pub decided : Decide f task.judge taken ended (Some stop)
   pub prompt : Prompt f task.judge taken ended
-  pub writes : Appends output.old.taken output.new.taken (task.text (take refusal.unit (f.whole true taken)))
+  pub writes : Appends output.old.taken output.new.taken (task.text (take stop.unit (f.whole true taken)))
 
--- read: the source's count of faults rose, the bytes taken show nothing, and the sink gained the text of the units
+-- Read: the source's count of faults rose, the bytes taken show nothing, and the sink gained the text of the units
 -- that were taken whole
 pub record ReadFails (f : Format) (task : Task) (limit : ℕ) (input : Input) (output : Output) : Type 0 where
   pub taken : List ℕ
@@ -63,7 +63,7 @@ pub record ReadFails (f : Format) (task : Task) (limit : ℕ) (input : Input) (o
   pub quiet : ShowNothing f task.judge taken
   pub writes : Appends output.old.taken output.new.taken (task.text (f.whole false taken))
 
--- write: the sink's count of faults rose, and it gained the first bytes of the text of some units, and not all of
+-- Write: the sink's count of faults rose, and it gained the first bytes of the text of some units, and not all of
 -- them; these are the first of those that were taken whole, and all were accepted
 pub record WriteFails (f : Format) (task : Task) (limit : ℕ) (input : Input) (output : Output) : Type 0 where
   pub taken : List ℕ
@@ -86,7 +86,7 @@ pub record TooLongs (f : Format) (task : Task) (limit : ℕ) (input : Input) (ou
   pub quiet : ShowNothing f task.judge taken
   pub writes : Appends output.old.taken output.new.taken (task.text (f.whole false taken))
 
--- memory: it has no cause that a contract knows; the sink gained the text of some units, the first of those that were
+-- Memory: it has no cause that a contract knows; the sink gained the text of some units, the first of those that were
 -- taken whole, all of which were accepted
 pub record MemoryEnds (f : Format) (task : Task) (limit : ℕ) (input : Input) (output : Output) : Type 0 where
   pub taken : List ℕ
@@ -101,17 +101,20 @@ pub record MemoryEnds (f : Format) (task : Task) (limit : ℕ) (input : Input) (
 -- each answer with its cause and what it leaves
 abbrev pub Answers : {T : Type 0} → Format → Task → (List NalUnit → T) → ℕ → Input → Output → Result T ExtractError → Type 0
 Answers f task total limit input output (Ok answer) = Accepts f task total limit input output answer
-Answers f task total limit input output (Err (Refused refusal)) = Refuses f task limit input output refusal
+Answers f task total limit input output (Err (Refused refusal)) = Halts f task limit input output (refused_at refusal)
+Answers f task total limit input output (Err (NoSuchSet asked count)) =
+    (stop : Stop) × (stop.why ≡ Objection.NoSuchSet asked count) × Halts f task limit input output stop
 Answers f task total limit input output (Err Read) = ReadFails f task limit input output
 Answers f task total limit input output (Err Write) = WriteFails f task limit input output
 Answers f task total limit input output (Err TooLong) = TooLongs f task limit input output
 Answers f task total limit input output (Err Memory) = MemoryEnds f task limit input output
 
--- an answer is the one that the bytes of an input decide, or want of memory: that they are accepted, or the stop that
--- they are refused for, or that there are more of them than the limit
+-- an answer is the one that the bytes of an input decide, or want of memory: that they are accepted, or the stop at which
+-- they are refused or lack the set, or that there are more of them than the limit
 abbrev pub IsDue : {T : Type 0} → Due → Result T ExtractError → Type 0
 IsDue what (Ok answer) = what ≡ Accepted
 IsDue what (Err (Refused refusal)) = what ≡ Stops (refused_at refusal)
+IsDue what (Err (NoSuchSet asked count)) = (stop : Stop) × (stop.why ≡ Objection.NoSuchSet asked count) × (what ≡ Stops stop)
 IsDue what (Err Read) = ⊥
 IsDue what (Err Write) = ⊥
 IsDue what (Err TooLong) = what ≡ Exceeds
@@ -121,3 +124,17 @@ IsDue what (Err Memory) = ⊤
 abbrev pub Settles : {T : Type 0} → Format → Judge → ℕ → Input → Output → Result T ExtractError → Type 0
 Settles f j limit input output answer =
     ¬ InputRose input → ¬ OutputRose output → IfSome input.old.told (λ was. IsDue (due f j limit was.left) answer)
+
+-- where a set is lacking it is the one that was asked for, and there are at least one set and at most as many as its number
+abbrev pub NamesSet : ℕ → Objection → Type 0
+NamesSet o (Objection.Breaks rule) = ⊤
+NamesSet o (Objection.NoSuchSet asked count) = (asked ≡ o) × (count ≤ o) × (0 < count)
+
+abbrev pub LacksOnly : {T : Type 0} → ℕ → Result T ExtractError → Type 0
+LacksOnly o (Ok answer) = ⊤
+LacksOnly o (Err (Refused refusal)) = ⊤
+LacksOnly o (Err (NoSuchSet asked count)) = NamesSet o (Objection.NoSuchSet asked count)
+LacksOnly o (Err Read) = ⊤
+LacksOnly o (Err Write) = ⊤
+LacksOnly o (Err TooLong) = ⊤
+LacksOnly o (Err Memory) = ⊤

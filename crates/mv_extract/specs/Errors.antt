@@ -1,22 +1,26 @@
--- How the error of a run is told as that of a call that writes on a sink.
-use Rattle.std.specs.Prelude.{◌≡◌, ⊤}
-use Rattle.mv_rules.specs.declared.refusal.Refusal.{Refusal}
-use Rattle.mv_io.specs.declared.sink.SinkFailed.{SinkFailed}
-use Rattle.mv_judging.specs.Event.{IsByRule, refused_at}
+-- How the error of a run is told as that of a call that does a task of the units.
+use Rattle.mv_judging.specs.declared.stop.Objection.{Objection}
+use Rattle.mv_judging.specs.declared.stop.Stop.{Stop}
 use Rattle.mv_engine.specs.declared.error.DriveError.{DriveError}
 use Rattle.mv_engine.specs.declared.error.DriveError.TheVariants.{Stopped, Read as ReadFailed, TooLong as Exceeding, Memory as NoMemory, Fault}
 use Rattle.mv_extract.specs.declared.error.ExtractError.{ExtractError}
-use Rattle.mv_extract.specs.declared.error.ExtractError.TheVariants.{Refused, Read, Write, TooLong, Memory}
+use Rattle.mv_extract.specs.declared.error.ExtractError.TheVariants.{Refused, NoSuchSet, Read, Write, TooLong, Memory}
+use Rattle.mv_extract.specs.declared.error.WorkFault.{WorkFault}
+use Rattle.mv_extract.specs.declared.error.WorkFault.TheVariants.{Write as CantWrite, Memory as Wants}
 
--- a stop is by a rule
-abbrev pub StopsByRule : DriveError SinkFailed → Type 0
-StopsByRule (Stopped stop) = IsByRule stop.why
-StopsByRule error = ⊤
+-- a run that stopped at a unit, by what is said against the unit
+abbrev pub stopped_by : Stop → Objection → ExtractError
+stopped_by stop (Objection.Breaks rule) = Refused (record { unit = stop.unit; byte = stop.byte; rule = rule })
+stopped_by stop (Objection.NoSuchSet asked count) = NoSuchSet asked count
 
--- a stop is told as the refusal that it is, and a visitor's fault as the write that failed
-abbrev pub IsTold : DriveError SinkFailed → ExtractError → Type 0
-IsTold (Stopped stop) error = (refusal : Refusal) × (error ≡ Refused refusal) × (refused_at refusal ≡ stop)
-IsTold ReadFailed error = error ≡ Read
-IsTold Exceeding error = error ≡ TooLong
-IsTold NoMemory error = error ≡ Memory
-IsTold (Fault failed) error = error ≡ Write
+abbrev pub stopped : Stop → ExtractError
+stopped stop = stopped_by stop stop.why
+
+-- each error of a run
+abbrev pub told : DriveError WorkFault → ExtractError
+told (Stopped stop) = stopped stop
+told ReadFailed = Read
+told Exceeding = TooLong
+told NoMemory = Memory
+told (Fault CantWrite) = Write
+told (Fault Wants) = Memory

@@ -1,5 +1,7 @@
+pub mod Accepting
 pub mod Answers
+pub mod Commutes
 pub mod Errors
-pub mod Keeping
+pub mod Extractor
 pub mod Task
 pub mod Text

@@ -1,10 +1,15 @@
-//! Extraction of a sub-bitstream: the units of the layers that are kept, each put behind a start code,
-//! bytes unchanged.
+//! Extraction of a sub-bitstream: the units of the layers that are kept for an output layer set, each put behind a start code,
+//! bytes unchanged, while the whole stream is checked.
 #![tactic(auto)]
 
-mod base_layer;
+mod accepting;
 mod error;
-mod heads;
+mod extracting;
+mod extractor;
+mod keeping;
+pub mod laws;
+mod no_sink;
 
-pub use error::ExtractError;
-pub use heads::extract_heads;
+pub use error::{ExtractError, WorkFault};
+pub use extracting::{check, extract};
+pub use keeping::keeps;

@@ -31,4 +31,5 @@ carrier to count = record {
   task = λ start. carrying (to start);
   opens = λ start. count start ≡ 0;
   stands = λ start now us. (to now ≡ to start) × (count now ≡ length us);
+  closed = λ start last us. count last ≡ length us;
 }

@@ -10,6 +10,7 @@ ghost use Rattle.mv_lenform.specs.Carrying.{text_of};
 
 use mv_bytestream::{Found, frame};
 use mv_engine::{Ending, Visitor};
+use mv_extract::WorkFault;
 use mv_io::{Sink, SinkFailed, write_both};
 use std::marker::PhantomData;
 
@@ -31,33 +32,32 @@ pub struct Carrier<K> {
 }
 
 impl<K: Sink> Visitor for Carrier<K> {
-    ghost use Rattle.mv_engine.specs.Writing.{writing};
-    ghost use Rattle.mv_extract.specs.Task.{writer};
+    ghost use Rattle.mv_extract.specs.Task.{working};
     ghost use Rattle.mv_lenform.specs.Carrying.{carrier};
     ghost use Rattle.mv_lenform.specs.Begun.{carrier-begins};
 
     type Out = K;
 
-    type Fault = SinkFailed;
+    type Fault = WorkFault;
 
-    ghost meaning = { writing K.state (writer (carrier (λ c. c.to) (λ c. c.count))) };
+    ghost meaning = { working K.state (carrier (λ c. c.to) (λ c. c.count)) };
 
     fn unit(
         &mut self,
         number: u64,
         found: &Found<'_>,
         out: &mut K,
-    ) -> Result<(), Ending<SinkFailed>> {
+    ) -> Result<(), Ending<WorkFault>> {
         match put(out, self.to, found.unit) {
             Ok(()) => {
                 self.count = number + 1;
                 Ok(())
             }
-            Err(failed) => Err(Ending::Fault(failed)),
+            Err(_) => Err(Ending::Fault(WorkFault::Write)),
         }
     }
 
-    fn end(&mut self, out: &mut K) -> Result<(), Ending<SinkFailed>> {
+    fn end(&mut self, out: &mut K) -> Result<(), Ending<WorkFault>> {
         let _ = out;
         Ok(())
     }
