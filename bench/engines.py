@@ -1,18 +1,19 @@
 #!/usr/bin/env python3
 """Measures the commands of mv_cli, as built here or else as dist/ has it, on streams that it makes itself, beside `cat`.
 
-Streams: large units (900 KB), middle ones (250 KB), small ones (90 bytes), all of layer 0, with four-byte start codes;
-`unpack` is given the same units in the length-prefixed form. For each command and stream it prints MB/s and the ratio to
+Streams: the stream of two views again and again, its slice data filled up to large units (900 KB), middle ones (250 KB) and
+small ones (90 bytes), with four-byte start codes; `unpack` is given the same units in the length-prefixed form. For each command and stream it prints MB/s and the ratio to
 `cat`, to nothing and to a pipe, the best of some runs; with --gigabyte the memory that each command takes at most on a
 stream of a gigabyte, and whether `pack | unpack` gives a gigabyte of framed units back, for which it ends with 1 where it
-doesn't. Aims: 0.4 of `cat` for `extract 0` and 0.35 for the others to nothing on large units; 900 MB/s for
-`extract 0` and 400 MB/s for the others on small ones.
+doesn't. Aims: 0.4 of `cat` for `check` and 0.35 for the others to nothing on large units; 600,000 units a second for `check`
+and 400 MB/s for `pack` and `unpack` on small ones.
 
 usage: bench/engines.py [--size MB] [--runs N] [--gigabyte] [COMMAND..]
 """
 import argparse
 import os
 import random
+import re
 import subprocess
 import sys
 import tempfile
@@ -21,31 +22,36 @@ import time
 HERE = os.path.dirname(os.path.dirname(os.path.abspath(__file__)))
 BUILD = os.path.join(HERE, "crates", "mv_cli", "out", "mv_cli")
 PROGRAM = BUILD if os.path.exists(BUILD) else os.path.join(HERE, "dist", "mv_cli")
-COMMANDS = {"extract": ("extract", "0"), "pack": ("pack",), "unpack": ("unpack",)}
+COMMANDS = {"extract": ("extract", "1"), "check": ("check",), "pack": ("pack",), "unpack": ("unpack",)}
 KINDS = (("large", 900_000), ("middle", 250_000), ("small", 90))
 
 
-def unit(size, seed):
-    """A slice unit of layer 0 whose bytes hold no start code and need no emulation prevention."""
+def filled(unit, size, seed):
+    """A unit with slice data up to a size, that hold no start code and need no emulation prevention; others as they are."""
+    if unit[0] >> 1 > 31 or len(unit) >= size:
+        return unit
     draw = random.Random(seed)
-    body = bytes(draw.randrange(1, 256) if draw.randrange(64) else 0 for _ in range(min(size, 65_521)))
-    while b"\0\0" in body:
-        body = body.replace(b"\0\0", b"\0\1")
-    body = (body * (size // len(body) + 1))[: size - 3]
-    return bytes((2, 1)) + body.replace(b"\0\0", b"\0\1") + b"\x80"
+    data = bytes(draw.randrange(1, 256) if draw.randrange(64) else 0 for _ in range(min(size, 65_521)))
+    while b"\0\0" in data:
+        data = data.replace(b"\0\0", b"\0\1")
+    data = (data * (size // len(data) + 1))[: size - len(unit) - 1].replace(b"\0\0", b"\0\1")
+    return unit + b"\xA5" + data[1:] + b"\x80"
 
 
 def stream(path, size, total, command):
-    """Writes units of one size up to a total of bytes, in the form that the command takes."""
-    units = [unit(size, seed) for seed in range(max(1, min(64, 4_000_000 // size)))]
+    """Writes the two views again and again up to a total of bytes, in the form that the command takes; how many, and how many units."""
+    with open(os.path.join(HERE, "samples", "two_view.h265"), "rb") as source:
+        views = [one.rstrip(b"\0") for one in re.split(b"\0\0\1", source.read())[1:]]
+    units = [filled(one, size, 16 * turn + at) for turn in range(max(1, min(16, 4_000_000 // size))) for at, one in enumerate(views)]
     if command == "unpack":
         block = b"".join(len(one).to_bytes(4, "big") + one for one in units)
     else:
         block = b"".join(b"\0\0\0\1" + one for one in units)
+    times = max(1, total // len(block))
     with open(path, "wb") as out:
-        for _ in range(max(1, total // len(block))):
+        for _ in range(times):
             out.write(block)
-    return os.path.getsize(path)
+    return times * len(block), times * len(units)
 
 
 def seconds(words, path, to_pipe):
@@ -85,11 +91,11 @@ def measure(command, path, asked):
     """Prints the figures of one command."""
     words = [PROGRAM, *COMMANDS[command]]
     for name, size in KINDS:
-        total = stream(path, size, asked.size * 1_000_000, command)
+        total, count = stream(path, size, asked.size * 1_000_000, command)
         for where, to_pipe in (("nothing", False), ("a pipe", True)):
             ours = min(seconds(words, path, to_pipe) for _ in range(asked.runs))
             cat = min(seconds(["cat"], path, to_pipe) for _ in range(asked.runs))
-            print(f"{command:8}{name:7} to {where:8} {total / ours / 1e6:8.0f} MB/s   {cat / ours:5.2f} of cat", flush=True)
+            print(f"{command:8}{name:7} to {where:8} {total / ours / 1e6:8.0f} MB/s   {cat / ours:5.2f} of cat {count / ours:12,.0f} units/s", flush=True)
     if asked.gigabyte:
         stream(path, 900_000, 1_000_000_000, command)
         most = most_memory(words, path)
@@ -100,7 +106,7 @@ def goes_round(path):
     """Whether `pack | unpack` gives each stream of a gigabyte of framed units back, large and small ones."""
     same = True
     for name, size in (KINDS[0], KINDS[2]):
-        total = stream(path, size, 1_000_000_000, "pack")
+        total = stream(path, size, 1_000_000_000, "pack")[0]
         start = time.perf_counter()
         with open(path, "rb") as source:
             pack = subprocess.Popen([PROGRAM, "pack"], stdin=source, stdout=subprocess.PIPE)
