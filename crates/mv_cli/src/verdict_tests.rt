@@ -41,6 +41,14 @@ const CUT_VPS: &[u8] = &[
     0x0A, 0x00, 0x89, 0x7D, 0x30,
 ];
 
+// The video parameter set of the two views with vps_extension2_flag, and no bits behind it.
+const OTHER_VPS: &[u8] = &[
+    0x40, 0x01, 0x0C, 0x11, 0xFF, 0xFF, 0x01, 0x60, 0x00, 0x00, 0x03, 0x00, 0x90, 0x00, 0x00, 0x03,
+    0x00, 0x00, 0x03, 0x00, 0x5D, 0xAC, 0x15, 0xBF, 0x5D, 0x20, 0x00, 0x04, 0x59, 0x70, 0x60, 0x20,
+    0x00, 0x00, 0x09, 0x00, 0x00, 0x03, 0x00, 0x00, 0x03, 0x00, 0x05, 0xD8, 0xD0, 0x04, 0x00, 0x04,
+    0x0A, 0x00, 0x89, 0x7D, 0x60,
+];
+
 // Runs the words on a stream of units.
 fn answers(
     rt: &impl Abort,
@@ -412,6 +420,99 @@ fn refuses(rt: HostRuntime) -> Result<(), Fail> {
             IDR,
         ],
         "refused: unit 9 at byte 162: rule 10 VpsSyntax\n",
+    )?;
+    Ok(())
+}
+
+#[test]
+fn video_parameter_sets_change(rt: HostRuntime) -> Result<(), Fail> {
+    let alloc = rt.alloc();
+    let changed: [&[u8]; 15] = [
+        VPS,
+        SPS,
+        SPS_LAYER_1,
+        PPS,
+        PPS_LAYER_1,
+        IDR,
+        IDR_LAYER_1,
+        TRAIL,
+        TRAIL_LAYER_1,
+        OTHER_VPS,
+        SPS,
+        SPS_LAYER_1,
+        PPS,
+        PPS_LAYER_1,
+        IDR,
+    ];
+    let forgotten: [&[u8]; 11] = [
+        VPS,
+        SPS,
+        SPS_LAYER_1,
+        PPS,
+        PPS_LAYER_1,
+        IDR,
+        IDR_LAYER_1,
+        TRAIL,
+        TRAIL_LAYER_1,
+        OTHER_VPS,
+        IDR,
+    ];
+    let mid_sequence: [&[u8]; 15] = [
+        VPS,
+        SPS,
+        SPS_LAYER_1,
+        PPS,
+        PPS_LAYER_1,
+        IDR,
+        IDR_LAYER_1,
+        TRAIL,
+        TRAIL_LAYER_1,
+        OTHER_VPS,
+        SPS,
+        SPS_LAYER_1,
+        PPS,
+        PPS_LAYER_1,
+        &[0x02, 0x01, 0xD1, 0x17, 0x70, 0xD3],
+    ];
+    let narrowed: [&[u8]; 10] = [
+        VPS,
+        SPS,
+        SPS_LAYER_1,
+        PPS,
+        PPS_LAYER_1,
+        IDR,
+        IDR_LAYER_1,
+        TRAIL,
+        TRAIL_LAYER_1,
+        ONE_VIEW_VPS,
+    ];
+    accepted(
+        &rt,
+        alloc,
+        &changed,
+        "accepted: units 15 pictures 5 sequences 2 layers 2 sets 2\n",
+    )?;
+    refused(
+        &rt,
+        alloc,
+        &forgotten,
+        "refused: unit 10 at byte 219: rule 50 MissingPps\n",
+    )?;
+    refused(
+        &rt,
+        alloc,
+        &mid_sequence,
+        "refused: unit 14 at byte 282: rule 74 VpsMidCvs\n",
+    )?;
+    let kept = stream(alloc, &TWO_VIEW, LONG_CODE)?;
+    answers(
+        &rt,
+        alloc,
+        &["extract", "1"],
+        &narrowed,
+        6,
+        &kept,
+        "no such set: 1 of 1\n",
     )?;
     Ok(())
 }
