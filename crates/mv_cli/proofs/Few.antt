@@ -1,4 +1,4 @@
--- A list of one or two texts, by its elements.
+-- A list of one, two or three texts, by its elements.
 use Rattle.std.proofs.Common.{◌≡◌, ℕ, ◌<◌, ◌≤◌, Bool, List, [], ◌∷◌, length, get_or, map, ap, ◌∙◌, sym, arith}
 use Rattle.std.specs.Prelude.{◌↔◌, IsTrue}
 use Rattle.std.specs.Str.{bytes_eq}
@@ -13,6 +13,20 @@ two f (a ∷ b ∷ c ∷ xs) x y low high ex ey = absurd (omega arith)
 -- the same by other names of the two
 pub pair : (ws : List (List ℕ)) (x y xn yn : List ℕ) → ws ≡ x ∷ y ∷ [] → xn ≡ x → yn ≡ y → xn ∷ yn ∷ [] ≡ ws
 pair ws x y xn yn two ex ey = ap (λ v. v ∷ yn ∷ []) ex ∙ ap (λ v. x ∷ v ∷ []) ey ∙ sym two
+
+-- the same of three
+pub three : {A : Type 0} (f : A → List ℕ) (xs : List A) (x y z : A) → 3 ≤ length xs → length xs < 4 → x ≡ get_or xs 0 x → y ≡ get_or xs 1 y → z ≡ get_or xs 2 z →
+    map f xs ≡ f x ∷ f y ∷ f z ∷ []
+three f [] x y z low high ex ey ez = absurd (omega arith)
+three f (a ∷ []) x y z low high ex ey ez = absurd (omega arith)
+three f (a ∷ b ∷ []) x y z low high ex ey ez = absurd (omega arith)
+three f (a ∷ b ∷ c ∷ []) x y z low high ex ey ez =
+    ap (λ v. f v ∷ f b ∷ f c ∷ []) (sym ex) ∙ ap (λ v. f x ∷ f v ∷ f c ∷ []) (sym ey) ∙ ap (λ v. f x ∷ f y ∷ f v ∷ []) (sym ez)
+three f (a ∷ b ∷ c ∷ d ∷ xs) x y z low high ex ey ez = absurd (omega arith)
+
+pub triple : (ws : List (List ℕ)) (x y z xn yn zn : List ℕ) → ws ≡ x ∷ y ∷ z ∷ [] → xn ≡ x → yn ≡ y → zn ≡ z → xn ∷ yn ∷ zn ∷ [] ≡ ws
+triple ws x y z xn yn zn all ex ey ez =
+    ap (λ v. v ∷ yn ∷ zn ∷ []) ex ∙ ap (λ v. x ∷ v ∷ zn ∷ []) ey ∙ ap (λ v. x ∷ y ∷ v ∷ []) ez ∙ sym all
 
 -- a list of one
 pub one : {A : Type 0} (f : A → List ℕ) (xs : List A) (x : A) → 1 ≤ length xs → length xs < 2 → x ≡ get_or xs 0 x → map f xs ≡ f x ∷ []
