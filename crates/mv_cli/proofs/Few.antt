@@ -14,9 +14,7 @@ two f (a ∷ b ∷ c ∷ xs) x y low high ex ey = absurd (omega arith)
 pub pair : (ws : List (List ℕ)) (x y xn yn : List ℕ) → ws ≡ x ∷ y ∷ [] → xn ≡ x → yn ≡ y → xn ∷ yn ∷ [] ≡ ws
 pair ws x y xn yn two ex ey = ap (λ v. v ∷ yn ∷ []) ex ∙ ap (λ v. x ∷ v ∷ []) ey ∙ sym two
 
--- the same of three
-pub three : {A : Type 0} (f : A → List ℕ) (xs : List A) (x y z : A) → 3 ≤ length xs → length xs < 4 → x ≡ get_or xs 0 x → y ≡ get_or xs 1 y → z ≡ get_or xs 2 z →
-    map f xs ≡ f x ∷ f y ∷ f z ∷ []
+pub three : {A : Type 0} (f : A → List ℕ) (xs : List A) (x y z : A) → 3 ≤ length xs → length xs < 4 → x ≡ get_or xs 0 x → y ≡ get_or xs 1 y → z ≡ get_or xs 2 z → map f xs ≡ f x ∷ f y ∷ f z ∷ []
 three f [] x y z low high ex ey ez = absurd (omega arith)
 three f (a ∷ []) x y z low high ex ey ez = absurd (omega arith)
 three f (a ∷ b ∷ []) x y z low high ex ey ez = absurd (omega arith)
@@ -25,8 +23,7 @@ three f (a ∷ b ∷ c ∷ []) x y z low high ex ey ez =
 three f (a ∷ b ∷ c ∷ d ∷ xs) x y z low high ex ey ez = absurd (omega arith)
 
 pub triple : (ws : List (List ℕ)) (x y z xn yn zn : List ℕ) → ws ≡ x ∷ y ∷ z ∷ [] → xn ≡ x → yn ≡ y → zn ≡ z → xn ∷ yn ∷ zn ∷ [] ≡ ws
-triple ws x y z xn yn zn all ex ey ez =
-    ap (λ v. v ∷ yn ∷ zn ∷ []) ex ∙ ap (λ v. x ∷ v ∷ zn ∷ []) ey ∙ ap (λ v. x ∷ y ∷ v ∷ []) ez ∙ sym all
+triple ws x y z xn yn zn all ex ey ez = ap (λ v. v ∷ yn ∷ zn ∷ []) ex ∙ ap (λ v. x ∷ v ∷ zn ∷ []) ey ∙ ap (λ v. x ∷ y ∷ v ∷ []) ez ∙ sym all
 
 -- a list of one
 pub one : {A : Type 0} (f : A → List ℕ) (xs : List A) (x : A) → 1 ≤ length xs → length xs < 2 → x ≡ get_or xs 0 x → map f xs ≡ f x ∷ []
@@ -40,3 +37,17 @@ alone ws x xn p r one ex test = (
   λ h. one ∙ ap (λ v. v ∷ []) (sym ex ∙ (bytes_eq-Decides xn p).0 (sym test ∙ h)),
   λ same. let parts : x ∷ [] ≡ p ∷ [] = sym one ∙ same in let last : x ≡ p = cc in test ∙ (bytes_eq-Decides xn p).1 (ex ∙ last),
 )
+
+-- the same of three
+pub three : {A : Type 0} (f : A → List ℕ) (xs : List A) (x y z : A) → 3 ≤ length xs → length xs < 4 → x ≡ get_or xs 0 x → y ≡ get_or xs 1 y → z ≡ get_or xs 2 z →
+    map f xs ≡ f x ∷ f y ∷ f z ∷ []
+three f [] x y z low high ex ey ez = absurd (omega arith)
+three f (a ∷ []) x y z low high ex ey ez = absurd (omega arith)
+three f (a ∷ b ∷ []) x y z low high ex ey ez = absurd (omega arith)
+three f (a ∷ b ∷ c ∷ []) x y z low high ex ey ez =
+    ap (λ v. f v ∷ f b ∷ f c ∷ []) (sym ex) ∙ ap (λ v. f x ∷ f v ∷ f c ∷ []) (sym ey) ∙ ap (λ v. f x ∷ f y ∷ f v ∷ []) (sym ez)
+three f (a ∷ b ∷ c ∷ d ∷ xs) x y z low high ex ey ez = absurd (omega arith)
+
+pub triple : (ws : List (List ℕ)) (x y z xn yn zn : List ℕ) → ws ≡ x ∷ y ∷ z ∷ [] → xn ≡ x → yn ≡ y → zn ≡ z → xn ∷ yn ∷ zn ∷ [] ≡ ws
+triple ws x y z xn yn zn all ex ey ez =
+    ap (λ v. v ∷ yn ∷ zn ∷ []) ex ∙ ap (λ v. x ∷ v ∷ zn ∷ []) ey ∙ ap (λ v. x ∷ y ∷ v ∷ []) ez ∙ sym all

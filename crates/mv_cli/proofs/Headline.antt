@@ -1,5 +1,5 @@
 -- The headline, from the cause of the ending and its line.
-use Rattle.std.proofs.Common.{◌≡◌, ℕ, ◌≤◌, length, ◌⊎◌, inl, inr, List, [], ◌∷◌, ◌∙◌, Option, None, Some, Result, Ok, Err, IfSome, refl, ap, sym, subst, arith}
+use Rattle.std.proofs.Common.{◌≡◌, ◌≢◌, ℕ, ◌≤◌, get_or, length, ◌⊎◌, inl, inr, List, [], ◌∷◌, ◌∙◌, Option, None, Some, Result, Ok, Err, IfSome, refl, ap, sym, subst, arith}
 use Rattle.std.specs.Prelude.{⊤, codes}
 use Rattle.std.specs.Str.Parse.{digits_value}
 use Rattle.mv_rules.specs.declared.refusal.Refusal.{Refusal}
@@ -7,32 +7,33 @@ use Rattle.mv_io.specs.Source.{Told}
 use Rattle.mv_extract.specs.declared.error.ExtractError.{ExtractError}
 use Rattle.mv_extract.specs.declared.error.ExtractError.TheVariants.{Refused as RefusedBy, NoSuchSet as Lacks, Read, Write, TooLong as TooManyBytes, Memory}
 use Rattle.mv_units.specs.Units.{NalUnit}
-use Rattle.mv_judging.specs.Event.{Due, Accepts}
+use Rattle.mv_judging.specs.Event.{Due, event}
 use Rattle.mv_judging.specs.Format.{Format, byte_stream}
 use Rattle.mv_judging.proofs.Seen.{due-whole}
 use Rattle.mv_judging.proofs.Streams.{stream-format}
-use Rattle.mv_pictures.specs.Verdict.{pictures}
 use Rattle.mv_prefixed.specs.Form.{length_form}
 use Rattle.mv_prefixed.proofs.Forms.{form-of}
 use Rattle.mv_extract.specs.Answers.{Answers as Works, IsDue}
 use Rattle.mv_extract.specs.Commutes.{Extracted}
 use Rattle.mv_extract.specs.Task.{Task}
 use Rattle.mv_extract.specs.Text.{checking, extraction, no_sink, nothing, total}
+use Rattle.mv_extract.proofs.Ended.{IsSound}
 use Rattle.mv_io.specs.Call.{Input, InputRose, Output, OutputRose}
 use Rattle.mv_extract.proofs.Settled.{settles}
 use Rattle.mv_extract.proofs.Accepted.{pictures-sound}
 use Rattle.mv_extract.proofs.Commuted.{extracted}
 use Rattle.mv_extract.proofs.Lacking.{lacks-none, lacks-only}
-use Rattle.mv_lenform.specs.Carrying.{carrying, nobody}
+use Rattle.mv_show.specs.Text.{showing}
+use Rattle.mv_show.proofs.Lacking.{shows-all}
 use Rattle.mv_lenform.proofs.Carried.{lacks-none as carries-all, nobody-sound}
 use Rattle.mv_lenform.specs.declared.carrier.Target.TheVariants.{Framed, Prefixed}
 use Rattle.mv_cli.specs.declared.ending.Ending.{Ending}
 use Rattle.mv_cli.specs.declared.ending.Ending.TheVariants.{Done, Refused, Usage, ReadFault, WriteFault, NoMemory, NoSuchSet, TooLong}
 use Rattle.mv_cli.specs.declared.command.Command.{Command}
-use Rattle.mv_cli.specs.declared.command.Command.TheVariants.{Extract, Check, Pack, Unpack, Gen}
-use Rattle.mv_cli.specs.Answers.{Answered, Caused, Checks, ChecksAlone, Does, Headline, Made, Makes, Tells, answer_status, decided_by, due_status, event_of, stop_status}
+use Rattle.mv_cli.specs.declared.command.Command.TheVariants.{Extract, Check, Show, Pack, Unpack}
+use Rattle.mv_cli.specs.Answers.{Answered, Caused, Checks, ChecksAlone, Does, Headline, Tells, answer_status, decided_by, due_status, form_of, stop_status, task_of}
 use Rattle.mv_cli.specs.Ending.{ending_of, lacking_line, line_of, refusal_line, status_of}
-use Rattle.mv_cli.specs.Words.{IsExtract, IsGen, Means}
+use Rattle.mv_cli.specs.Words.{IsExtract, Means}
 
 decided_status : (answer : Result ⊤ ExtractError) (what : Due) → IsDue what answer → (answer_status answer ≡ due_status what) ⊎ (answer_status answer ≡ 5)
 decided_status (Ok done) what is = inl (ap due_status (sym is))
@@ -48,22 +49,22 @@ by_status : (command : Command) (old : Option Told) (limit : ℕ) (answer : Resu
 by_status command None limit answer h = tt
 by_status command (Some was) limit answer h = decided_status answer (decided_by command limit was.left) h
 
--- the bytes that are accepted for a command, where they are within the limit
-accepted : (command : Command) (limit : ℕ) (held : List ℕ) → length held ≤ limit → event_of command held ≡ None → decided_by command limit held ≡ Accepts
-accepted (Extract n) limit held low fine = due-whole byte_stream (pictures n) limit held None (pictures-sound n).format low fine
-accepted Check limit held low fine = due-whole byte_stream (pictures 0) limit held None (pictures-sound 0).format low fine
-accepted Pack limit held low fine = due-whole byte_stream nobody limit held None (nobody-sound byte_stream stream-format).format low fine
-accepted Unpack limit held low fine = due-whole length_form nobody limit held None (nobody-sound length_form form-of).format low fine
-accepted (Gen number count) limit held low fine = refl
+-- what a command objects to is by no rule by which bytes are refused early
+sound : (command : Command) → IsSound (form_of command) (task_of command).judge
+sound (Extract n) = pictures-sound n
+sound Check = pictures-sound 0
+sound Show = pictures-sound 0
+sound Pack = nobody-sound _ stream-format
+sound Unpack = nobody-sound _ form-of
 
--- so the status is 0
+-- so where they are within the limit and accepted, it is 0
 complete_by : (command : Command) (old : Option Told) (limit status : ℕ) → IfSome old (λ was. (status ≡ due_status (decided_by command limit was.left)) ⊎ (status ≡ 5)) →
-    IfSome old (λ was. length was.left ≤ limit → event_of command was.left ≡ None → (status ≡ 0) ⊎ (status ≡ 5))
+    IfSome old (λ was. length was.left ≤ limit → event (form_of command) (task_of command).judge was.left ≡ None → (status ≡ 0) ⊎ (status ≡ 5))
 complete_by command None limit status h = tt
 complete_by command (Some was) limit status h = λ low fine. go low fine h
   where
-    go : length was.left ≤ limit → event_of command was.left ≡ None → (status ≡ due_status (decided_by command limit was.left)) ⊎ (status ≡ 5) → (status ≡ 0) ⊎ (status ≡ 5)
-    go low fine (inl e) = inl (e ∙ ap due_status (accepted command limit was.left low fine))
+    go : length was.left ≤ limit → event (form_of command) (task_of command).judge was.left ≡ None → (status ≡ due_status (decided_by command limit was.left)) ⊎ (status ≡ 5) → (status ≡ 0) ⊎ (status ≡ 5)
+    go low fine (inl e) = inl (e ∙ ap due_status (due-whole (form_of command) (task_of command).judge limit was.left None (sound command).format low fine))
     go low fine (inr e) = inr e
 
 -- the words of a command are no other command's
@@ -76,51 +77,36 @@ one_number words m n first second =
 not_alone : {A : Type 0} (words : List (List ℕ)) (n : ℕ) (word : List ℕ) → IsExtract words n → words ≡ word ∷ [] → A
 not_alone words n word extracts alone = absurd (let h : codes "extract" ∷ extracts.word ∷ [] ≡ word ∷ [] = sym extracts.both ∙ alone in cc)
 
-differ : {A : Type 0} (words : List (List ℕ)) (a b : List ℕ) → (a ∷ [] ≡ b ∷ [] → ⊥) → words ≡ a ∷ [] → words ≡ b ∷ [] → A
-differ words a b isnt first second = absurd (isnt (sym first ∙ second))
-
-one_stream : (words : List (List ℕ)) (m k n l : ℕ) → IsGen words m k → IsGen words n l → (m ≡ n) × (k ≡ l)
-one_stream words m k n l first second =
-    let all : codes "gen" ∷ first.first ∷ first.second ∷ [] ≡ codes "gen" ∷ second.first ∷ second.second ∷ [] = sym first.all ∙ second.all in
-    let number : first.first ≡ second.first = cc in
-    let count : first.second ≡ second.second = cc in (
-      first.numbers.value ∙ ap (digits_value 10) number ∙ sym second.numbers.value,
-      first.counts.value ∙ ap (digits_value 10) count ∙ sym second.counts.value,
-    )
-
-makes_more : {A : Type 0} (words : List (List ℕ)) (number count : ℕ) (word : List ℕ) → IsGen words number count → words ≡ word ∷ [] → A
-makes_more words number count word makes alone = absurd (let h : codes "gen" ∷ makes.first ∷ makes.second ∷ [] ≡ word ∷ [] = sym makes.all ∙ alone in cc)
-
-not_both : {A : Type 0} (words : List (List ℕ)) (n number count : ℕ) → IsExtract words n → IsGen words number count → A
-not_both words n number count extracts makes =
-    absurd (let h : codes "extract" ∷ extracts.word ∷ [] ≡ codes "gen" ∷ makes.first ∷ makes.second ∷ [] = sym extracts.both ∙ makes.all in cc)
+-- words that begin with other letters
+differ : {A : Type 0} (words : List (List ℕ)) (a b : List ℕ) → get_or a 0 0 ≢ get_or b 0 0 → words ≡ a ∷ [] → words ≡ b ∷ [] → A
+differ words a b other first second = absurd (other (ap (λ (ws : List (List ℕ)). get_or (get_or ws 0 []) 0 0) (sym first ∙ second)))
 
 only : (words : List (List ℕ)) (a b : Command) → Means words a → Means words b → a ≡ b
 only words (Extract m) (Extract n) first second = ap Extract (one_number words m n first second)
 only words (Extract m) Check first second = not_alone words m (codes "check") first second
+only words (Extract m) Show first second = not_alone words m (codes "show") first second
 only words (Extract m) Pack first second = not_alone words m (codes "pack") first second
 only words (Extract m) Unpack first second = not_alone words m (codes "unpack") first second
-only words (Extract m) (Gen number count) first second = not_both words m number count first second
 only words Check (Extract n) first second = not_alone words n (codes "check") second first
 only words Check Check first second = refl
-only words Check Pack first second = differ words (codes "check") (codes "pack") (λ h. cc) first second
-only words Check Unpack first second = differ words (codes "check") (codes "unpack") (λ h. cc) first second
-only words Check (Gen number count) first second = makes_more words number count (codes "check") second first
+only words Check Show first second = differ words (codes "check") (codes "show") (λ h. let wrong : 99 ≡ 115 = h in omega (arith, wrong)) first second
+only words Check Pack first second = differ words (codes "check") (codes "pack") (λ h. let wrong : 99 ≡ 112 = h in omega (arith, wrong)) first second
+only words Check Unpack first second = differ words (codes "check") (codes "unpack") (λ h. let wrong : 99 ≡ 117 = h in omega (arith, wrong)) first second
+only words Show (Extract n) first second = not_alone words n (codes "show") second first
+only words Show Check first second = differ words (codes "show") (codes "check") (λ h. let wrong : 115 ≡ 99 = h in omega (arith, wrong)) first second
+only words Show Show first second = refl
+only words Show Pack first second = differ words (codes "show") (codes "pack") (λ h. let wrong : 115 ≡ 112 = h in omega (arith, wrong)) first second
+only words Show Unpack first second = differ words (codes "show") (codes "unpack") (λ h. let wrong : 115 ≡ 117 = h in omega (arith, wrong)) first second
 only words Pack (Extract n) first second = not_alone words n (codes "pack") second first
-only words Pack Check first second = differ words (codes "pack") (codes "check") (λ h. cc) first second
+only words Pack Check first second = differ words (codes "pack") (codes "check") (λ h. let wrong : 112 ≡ 99 = h in omega (arith, wrong)) first second
+only words Pack Show first second = differ words (codes "pack") (codes "show") (λ h. let wrong : 112 ≡ 115 = h in omega (arith, wrong)) first second
 only words Pack Pack first second = refl
-only words Pack Unpack first second = differ words (codes "pack") (codes "unpack") (λ h. cc) first second
-only words Pack (Gen number count) first second = makes_more words number count (codes "pack") second first
+only words Pack Unpack first second = differ words (codes "pack") (codes "unpack") (λ h. let wrong : 112 ≡ 117 = h in omega (arith, wrong)) first second
 only words Unpack (Extract n) first second = not_alone words n (codes "unpack") second first
-only words Unpack Check first second = differ words (codes "unpack") (codes "check") (λ h. cc) first second
-only words Unpack Pack first second = differ words (codes "unpack") (codes "pack") (λ h. cc) first second
+only words Unpack Check first second = differ words (codes "unpack") (codes "check") (λ h. let wrong : 117 ≡ 99 = h in omega (arith, wrong)) first second
+only words Unpack Show first second = differ words (codes "unpack") (codes "show") (λ h. let wrong : 117 ≡ 115 = h in omega (arith, wrong)) first second
+only words Unpack Pack first second = differ words (codes "unpack") (codes "pack") (λ h. let wrong : 117 ≡ 112 = h in omega (arith, wrong)) first second
 only words Unpack Unpack first second = refl
-only words Unpack (Gen number count) first second = makes_more words number count (codes "unpack") second first
-only words (Gen number count) (Extract n) first second = not_both words n number count second first
-only words (Gen number count) Check first second = makes_more words number count (codes "check") first second
-only words (Gen number count) Pack first second = makes_more words number count (codes "pack") first second
-only words (Gen number count) Unpack first second = makes_more words number count (codes "unpack") first second
-only words (Gen m k) (Gen n l) first second = let same = one_stream words m k n l first second in ap (λ x. Gen x k) same.0 ∙ ap (λ x. Gen n x) same.1
 
 -- what a call answered, less what is answered of the units
 pub forgets : {T : Type 0} (f : Format) (task : Task) (sum : List NalUnit → T) (limit : ℕ) (input : Input) (output : Output) (answer : T) → Works f task sum limit input output (Ok answer) → Works f task nothing limit input output (Ok tt)
@@ -151,11 +137,6 @@ less f task sum limit input output (Err Memory) works = works
 pub as_plain : (limit : ℕ) (input : Input) (output : Output) (answer : Result ⊤ ExtractError) → Checks limit input output answer → Checks limit input output (plain answer)
 as_plain limit input output (Ok done) checks = checks
 as_plain limit input output (Err error) checks = checks
-
--- a stream that is made answers nothing
-pub makes_plain : (number count : ℕ) (output : Output) (answer : Result ⊤ ExtractError) → Makes number count output answer → Makes number count output (plain answer)
-makes_plain number count output (Ok done) makes = makes
-makes_plain number count output (Err error) makes = makes
 
 -- the ending of a command that answered so
 pub caused : {T : Type 0} (words : List (List ℕ)) (limit : ℕ) (input : Input) (output : Output) (answer : Result T ExtractError) → Answered words limit input output (plain answer) → Caused words limit input output (ending_of answer)
@@ -198,65 +179,13 @@ checks_settle limit input output (Err Read) run calm quiet = alone limit input o
 checks_settle limit input output (Err TooManyBytes) run calm quiet = alone limit input output TooManyBytes run calm
 checks_settle limit input output (Err Memory) run calm quiet = alone limit input output Memory run calm
 
-for_all : {A : Type 0} (o : Option A) (P : A → Type 0) → ((x : A) → P x) → IfSome o P
-for_all None P h = tt
-for_all (Some x) P h = h x
-
--- no bytes are read of a stream that is made
-makes_settles : (number count limit : ℕ) (input : Input) (output : Output) (answer : Result ⊤ ExtractError) → Makes number count output answer → ¬ OutputRose output →
-    IfSome input.old.told (λ was. IsDue (decided_by (Gen number count) limit was.left) answer)
-makes_settles number count limit input output (Ok done) makes quiet = for_all input.old.told (λ was. IsDue (decided_by (Gen number count) limit was.left) (Ok done)) (λ was. refl)
-makes_settles number count limit input output (Err (RefusedBy refusal)) makes quiet = absurd makes
-makes_settles number count limit input output (Err (Lacks asked many)) makes quiet = absurd makes
-makes_settles number count limit input output (Err Read) makes quiet = absurd makes
-makes_settles number count limit input output (Err Write) makes quiet = absurd (quiet makes.rose)
-makes_settles number count limit input output (Err TooManyBytes) makes quiet = absurd makes
-makes_settles number count limit input output (Err Memory) makes quiet = for_all input.old.told (λ was. IsDue (decided_by (Gen number count) limit was.left) (fails Memory)) (λ was. tt)
-
--- what a stream that is made leaves
-made : (number count : ℕ) (input : Input) (output : Output) (answer : Result ⊤ ExtractError) → input.new ≡ input.old → Makes number count output answer → Made number count input output (answer_status answer)
-made number count input output (Ok done) same makes = record {
-  unread = same;
-  whole = λ e. makes;
-  fails = λ e. absurd (omega arith);
-  wants = λ e. absurd (omega arith);
-  others = λ a b. absurd (a refl);
-  complete = λ quiet. inl refl;
-}
-made number count input output (Err (RefusedBy refusal)) same makes = absurd makes
-made number count input output (Err (Lacks asked many)) same makes = absurd makes
-made number count input output (Err Read) same makes = absurd makes
-made number count input output (Err Write) same makes = record {
-  unread = same;
-  whole = λ e. absurd (omega arith);
-  fails = λ e. makes;
-  wants = λ e. absurd (omega arith);
-  others = λ a b. absurd (b refl);
-  complete = λ quiet. absurd (quiet makes.rose);
-}
-made number count input output (Err TooManyBytes) same makes = absurd makes
-made number count input output (Err Memory) same makes = record {
-  unread = same;
-  whole = λ e. absurd (omega arith);
-  fails = λ e. absurd (omega arith);
-  wants = λ e. makes;
-  others = λ a b. refl;
-  complete = λ quiet. inr refl;
-}
-
-made_by : (words : List (List ℕ)) (limit : ℕ) (input : Input) (output : Output) (answer : Result ⊤ ExtractError) (number count : ℕ) → Means words (Gen number count) →
-    Answered words limit input output answer → Made number count input output (answer_status answer)
-made_by words limit input output answer number count means answered =
-    let does : Does (Gen number count) limit input output answer = subst (λ c. Does c limit input output answer) (only words answered.0 (Gen number count) answered.1 means) answered.2 in
-    made number count input output answer does.0 does.1
-
 does_settle : (command : Command) (limit : ℕ) (input : Input) (output : Output) (answer : Result ⊤ ExtractError) → Does command limit input output answer → ¬ InputRose input → ¬ OutputRose output →
     IfSome input.old.told (λ was. IsDue (decided_by command limit was.left) answer)
-does_settle (Extract n) limit input output answer works = settles byte_stream (extraction n) nothing limit input output answer (pictures-sound n) works
+does_settle (Extract n) limit input output answer works = settles byte_stream (extraction n) nothing limit input output answer (sound (Extract n)) works
 does_settle Check limit input output answer works = checks_settle limit input output answer works
-does_settle Pack limit input output answer works = settles byte_stream (carrying Prefixed) nothing limit input output answer (nobody-sound byte_stream stream-format) works
-does_settle Unpack limit input output answer works = settles length_form (carrying Framed) nothing limit input output answer (nobody-sound length_form form-of) works
-does_settle (Gen number count) limit input output answer works = λ calm quiet. makes_settles number count limit input output answer works.1 quiet
+does_settle Show limit input output answer works = settles byte_stream showing nothing limit input output answer (sound Show) works
+does_settle Pack limit input output answer works = settles byte_stream (task_of Pack) nothing limit input output answer (sound Pack) works
+does_settle Unpack limit input output answer works = settles (form_of Unpack) (task_of Unpack) nothing limit input output answer (sound Unpack) works
 
 -- `extract N` on status 0
 extracts_by : (words : List (List ℕ)) (limit : ℕ) (input : Input) (output : Output) (n : ℕ) → Means words (Extract n) → Answered words limit input output (Ok tt) → Extracted n limit input output
@@ -279,16 +208,15 @@ lacking_by words limit input output faults asked count (Extract n) means does to
     let names = lacks-only nothing n limit input output (Err (Lacks asked count)) does in
     (n, count, means, subst (λ a. Does (Extract n) limit input output (Err (Lacks a count))) names.0 does, names.1, subst (λ a. Tells faults (lacking_line a count)) names.0 told)
 lacking_by words limit input output faults asked count Check means does told = absurd (lacks-none (total 0) limit input no_sink asked count does.checks)
+lacking_by words limit input output faults asked count Show means does told = absurd (shows-all nothing limit input output asked count does)
 lacking_by words limit input output faults asked count Pack means does told = absurd (carries-all byte_stream Prefixed nothing limit input output asked count does)
 lacking_by words limit input output faults asked count Unpack means does told = absurd (carries-all length_form Framed nothing limit input output asked count does)
-lacking_by words limit input output faults asked count (Gen number many) means does told = absurd does.1
 
 -- a command that answered
 headline_by : (words : List (List ℕ)) (limit : ℕ) (input : Input) (output faults : Output) (answer : Result ⊤ ExtractError) → Answered words limit input output answer → Told_of faults answer → Headline words limit input output faults (answer_status answer)
 headline_by words limit input output faults answer answered told = record {
   succeeds = λ e. accepts answer answered e;
   extracts = λ n means e. extracts_by words limit input output n means (accepts answer answered e);
-  generates = λ number count means. made_by words limit input output answer number count means answered;
   refused = λ e. refuses answer answered told e;
   lacks = λ e. lacking answer answered told e;
   read_fault = λ e. reads answer answered told e;
@@ -385,7 +313,6 @@ headline words limit input output faults (Refused refusal) caused line = headlin
 headline words limit input output faults Usage caused line = record {
   succeeds = λ e. absurd (omega arith);
   extracts = λ n means e. absurd (omega arith);
-  generates = λ number count means. absurd (caused.0 (Gen number count, means));
   refused = λ e. absurd (omega arith);
   lacks = λ e. absurd (omega arith);
   read_fault = λ e. absurd (omega arith);

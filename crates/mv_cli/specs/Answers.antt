@@ -1,32 +1,46 @@
 -- How the program answers (this project's profile): the cause of each status, and what it leaves on the
 -- output and on the sink for faults.
-use Rattle.std.specs.Prelude.{ℕ, ◌≡◌, ◌≢◌, ◌<◌, ◌≤◌, ◌⊎◌, List, length, take, Option, None, IfSome, Result, Ok, Err, ⊤}
+use Rattle.std.specs.Prelude.{ℕ, ◌≡◌, ◌<◌, ◌≤◌, ◌⊎◌, List, length, take, None, IfSome, Result, Ok, Err, ⊤}
 use Rattle.mv_rules.specs.declared.refusal.Refusal.{Refusal}
 use Rattle.mv_io.specs.Sink.{Appends, AppendsPrefix}
 use Rattle.mv_extract.specs.declared.error.ExtractError.{ExtractError}
 use Rattle.mv_extract.specs.declared.error.ExtractError.TheVariants.{Refused as RefusedBy, NoSuchSet as Lacks, Read, Write, TooLong as TooManyBytes, Memory}
 use Rattle.mv_judging.specs.declared.stop.Objection.{Objection}
-use Rattle.mv_judging.specs.declared.stop.Stop.{Stop}
 use Rattle.mv_judging.specs.Event.{Due, Accepts as Accepted, Stops, Exceeds, due, event}
-use Rattle.mv_judging.specs.Format.{byte_stream}
-use Rattle.mv_units.specs.Framing.{frame}
-use Rattle.mv_pictures.specs.Verdict.{pictures}
+use Rattle.mv_judging.specs.Format.{Format, byte_stream}
 use Rattle.mv_extract.specs.Answers.{Answers as Works}
 use Rattle.mv_extract.specs.Commutes.{Extracted}
+use Rattle.mv_extract.specs.Task.{Task}
 use Rattle.mv_extract.specs.Text.{checking, extraction, no_sink, nothing, total}
+use Rattle.mv_show.specs.Text.{showing}
 use Rattle.mv_walk.specs.declared.step.Totals.{Totals}
 use Rattle.mv_prefixed.specs.Form.{length_form}
-use Rattle.mv_lenform.specs.Carrying.{carrying, nobody}
+use Rattle.mv_lenform.specs.Carrying.{carrying}
 use Rattle.mv_lenform.specs.declared.carrier.Target.TheVariants.{Prefixed, Framed}
 use Rattle.mv_cli.specs.declared.command.Command.{Command}
-use Rattle.mv_gen.specs.Units.{gen_units}
-use Rattle.mv_gen.specs.Writing.{MemoryEnds, WriteFails}
-use Rattle.mv_cli.specs.declared.command.Command.TheVariants.{Extract, Check, Pack, Unpack, Gen}
+use Rattle.mv_cli.specs.declared.command.Command.TheVariants.{Extract, Check, Show, Pack, Unpack}
 use Rattle.mv_io.specs.Call.{Input, Output, InputRose, OutputRose, Untouched}
 use Rattle.mv_cli.specs.declared.ending.Ending.{Ending}
 use Rattle.mv_cli.specs.declared.ending.Ending.TheVariants.{Done, Refused, Usage, ReadFault, WriteFault, NoMemory, NoSuchSet, TooLong}
 use Rattle.mv_cli.specs.Ending.{accepted_line, lacking_line, status_of, line_of, refusal_line}
 use Rattle.mv_cli.specs.Words.{IsForm, Means, usage_line}
+
+-- the form in which a command takes its units, and what it does of them: `extract N` judges the pictures of a byte stream
+-- where set N is asked for, and writes the units that are kept for it, framed; `check` judges them where set 0 is, and so does `show`, which
+-- writes the text of all units; `pack` writes all units of a byte stream, and `unpack` those of a string in the length-prefixed form, in the other form
+abbrev pub form_of : Command → Format
+form_of (Extract n) = byte_stream
+form_of Check = byte_stream
+form_of Show = byte_stream
+form_of Pack = byte_stream
+form_of Unpack = length_form
+
+abbrev pub task_of : Command → Task
+task_of (Extract n) = extraction n
+task_of Check = checking
+task_of Show = showing
+task_of Pack = carrying Prefixed
+task_of Unpack = carrying Framed
 
 -- a line was written, or the first of it where the output's count of faults rose
 abbrev pub WritesLine : Output → List ℕ → Result ⊤ ExtractError → Type 0
@@ -55,42 +69,17 @@ Checks limit input output (Err Read) = ChecksAlone limit input output Read
 Checks limit input output (Err TooManyBytes) = ChecksAlone limit input output TooManyBytes
 Checks limit input output (Err Memory) = ChecksAlone limit input output Memory
 
--- a stream is made: the output gained its units, framed, or the first of that where a write failed or memory was wanting; it is
--- never refused
-abbrev pub Makes : ℕ → ℕ → Output → Result ⊤ ExtractError → Type 0
-Makes number count output (Ok _) = Appends output.old.taken output.new.taken (frame (gen_units number count))
-Makes number count output (Err Write) = WriteFails (gen_units number count) output
-Makes number count output (Err Memory) = MemoryEnds (gen_units number count) output
-Makes number count output (Err (RefusedBy refusal)) = ⊥
-Makes number count output (Err (Lacks asked many)) = ⊥
-Makes number count output (Err Read) = ⊥
-Makes number count output (Err TooManyBytes) = ⊥
-
--- when a command answers, and what the input gave and the output gained: `extract N` judges the pictures of a byte stream where set
--- N is asked for, and writes the units that are kept for it, framed; `check` judges them where set 0 is; `pack` writes all units of
--- a byte stream, and `unpack` those of a string in the length-prefixed form, in the other form; `gen` reads nothing
+-- when a command answers, and what the input gave and the output gained
 abbrev pub Does : Command → ℕ → Input → Output → Result ⊤ ExtractError → Type 0
 Does (Extract n) limit input output answer = Works byte_stream (extraction n) nothing limit input output answer
 Does Check limit input output answer = Checks limit input output answer
+Does Show limit input output answer = Works byte_stream showing nothing limit input output answer
 Does Pack limit input output answer = Works byte_stream (carrying Prefixed) nothing limit input output answer
 Does Unpack limit input output answer = Works length_form (carrying Framed) nothing limit input output answer
-Does (Gen number count) limit input output answer = (input.new ≡ input.old) × Makes number count output answer
 
--- what the bytes of an input decide for a command: those of `gen`, which aren't read, nothing
+-- what the bytes of an input decide for a command
 abbrev pub decided_by : Command → ℕ → List ℕ → Due
-decided_by (Extract n) limit held = due byte_stream (pictures n) limit held
-decided_by Check limit held = due byte_stream (pictures 0) limit held
-decided_by Pack limit held = due byte_stream nobody limit held
-decided_by Unpack limit held = due length_form nobody limit held
-decided_by (Gen number count) limit held = Accepted
-
--- what they are stopped at, where all of them are taken
-abbrev pub event_of : Command → List ℕ → Option Stop
-event_of (Extract n) held = event byte_stream (pictures n) held
-event_of Check held = event byte_stream (pictures 0) held
-event_of Pack held = event byte_stream nobody held
-event_of Unpack held = event length_form nobody held
-event_of (Gen number count) held = None
+decided_by command limit held = due (form_of command) (task_of command).judge limit held
 
 -- the words are those of a command that answered so
 abbrev pub Answered : List (List ℕ) → ℕ → Input → Output → Result ⊤ ExtractError → Type 0
@@ -140,17 +129,6 @@ due_status Accepted = 0
 due_status (Stops stop) = stop_status stop.why
 due_status Exceeds = 7
 
--- what `gen` leaves by its status: nothing was read; 0, and the output gained the units of the stream, framed, and nothing else; 4 only
--- where the output's count of faults rose, which gained the first bytes of that, and not all; 5 for want of memory, where the output
--- gained the first units; no other, and so 0 or 5 where the output didn't fail
-pub record Made (number count : ℕ) (input : Input) (output : Output) (status : ℕ) : Type 0 where
-  pub unread : input.new ≡ input.old
-  pub whole : status ≡ 0 → Appends output.old.taken output.new.taken (frame (gen_units number count))
-  pub fails : status ≡ 4 → WriteFails (gen_units number count) output
-  pub wants : status ≡ 5 → MemoryEnds (gen_units number count) output
-  pub others : status ≢ 0 → status ≢ 4 → status ≡ 5
-  pub complete : ¬ OutputRose output → (status ≡ 0) ⊎ (status ≡ 5)
-
 -- `extract N` succeeds exactly when the stream is accepted and has set N, given memory and ends that don't fail; it then writes
 -- the kept units in order, an accepted stream that under every picture function gives the same output pictures in the same
 -- order; any other stream is refused at its first offending unit and rule, or earlier for lacking the set. The like is so of
@@ -162,8 +140,6 @@ pub record Headline (words : List (List ℕ)) (limit : ℕ) (input : Input) (out
   -- `extract N` then wrote the kept units in order, framed. What it wrote is accepted, and has the same output pictures of the
   -- set in the same order: their terms are the same, and so is what any function makes of these
   pub extracts : (n : ℕ) → Means words (Extract n) → status ≡ 0 → Extracted n limit input output
-  -- `gen NUMBER COUNT` reads nothing, and writes the stream that is made from the number
-  pub generates : (number count : ℕ) → Means words (Gen number count) → Made number count input output status
   -- status 1 comes only for an input that is refused at its first offending unit and rule, the output gained exactly what is
   -- written before the refused unit, and the line on the sink for faults names unit, byte and rule
   pub refused : status ≡ 1 →
@@ -184,7 +160,7 @@ pub record Headline (words : List (List ℕ)) (limit : ℕ) (input : Input) (out
       IfSome input.old.told (λ was. (status ≡ due_status (decided_by command limit was.left)) ⊎ (status ≡ 5))
   -- so where these bytes are within the limit and are accepted, the status is 0, or memory was wanting
   pub complete : (command : Command) → Means words command → ¬ InputRose input → ¬ OutputRose output →
-      IfSome input.old.told (λ was. length was.left ≤ limit → event_of command was.left ≡ None → (status ≡ 0) ⊎ (status ≡ 5))
+      IfSome input.old.told (λ was. length was.left ≤ limit → event (form_of command) (task_of command).judge was.left ≡ None → (status ≡ 0) ⊎ (status ≡ 5))
   -- status 2 comes exactly where the words are no form; neither end was used then, and the line says what they may be
   pub usage : ¬ IsForm words → status ≡ 2
   pub form : status ≡ 2 → (¬ IsForm words) × Untouched input output × Tells faults usage_line

@@ -2,7 +2,7 @@
 use Rattle.std.specs.Prelude.{ℕ, ◌≡◌, ◌<◌, ◌≤◌, ◌^◌, List, [], ◌∷◌, length, codes, slice_index}
 use Rattle.std.specs.Str.Parse.{IsNumeral, digits_value}
 use Rattle.mv_cli.specs.declared.command.Command.{Command}
-use Rattle.mv_cli.specs.declared.command.Command.TheVariants.{Extract, Check, Pack, Unpack, Gen}
+use Rattle.mv_cli.specs.declared.command.Command.TheVariants.{Extract, Check, Pack, Unpack, Gen, Show}
 
 -- a word writes a number: it is of 1 to `most` decimal digits, leading zeros among them, and the number is below a bound
 pub record IsNumber (most bound : ℕ) (word : List ℕ) (n : ℕ) : Type 0 where
@@ -34,15 +34,17 @@ pub record IsGen (words : List (List ℕ)) (number count : ℕ) : Type 0 where
 abbrev pub MeansPlain : List (List ℕ) → Command → Type 0
 MeansPlain words (Extract n) = ⊥
 MeansPlain words Check = words ≡ codes "check" ∷ []
+MeansPlain words Show = words ≡ codes "show" ∷ []
 MeansPlain words Pack = words ≡ codes "pack" ∷ []
 MeansPlain words Unpack = words ≡ codes "unpack" ∷ []
 MeansPlain words (Gen number count) = ⊥
 
--- the words of each command: `extract` and the number of a set, or `check`, or `pack`, or `unpack`, or `gen` with a number and a
--- count, and no others
+-- the words of each command: `extract` and the number of a set, or `check`, `show`, `pack` or `unpack`, or `gen` with a number and a count,
+-- and no others
 abbrev pub Means : List (List ℕ) → Command → Type 0
 Means words (Extract n) = IsExtract words n
 Means words Check = words ≡ codes "check" ∷ []
+Means words Show = words ≡ codes "show" ∷ []
 Means words Pack = words ≡ codes "pack" ∷ []
 Means words Unpack = words ≡ codes "unpack" ∷ []
 Means words (Gen number count) = IsGen words number count

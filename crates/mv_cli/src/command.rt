@@ -11,6 +11,8 @@ pub enum Command {
     Extract(u32),
     /// Checks a stream, and writes its totals.
     Check,
+    /// Checks a stream, and writes the text of its units.
+    Show,
     /// Writes each unit of a byte stream behind its length.
     Pack,
     /// Writes each unit of the length-prefixed form behind a start code.
@@ -69,6 +71,8 @@ fn plain_of(words: &[String]) -> Option<Command>
 {
     if is_word(words, "check") {
         Some(Command::Check)
+    } else if is_word(words, "show") {
+        Some(Command::Show)
     } else if is_word(words, "pack") {
         Some(Command::Pack)
     } else if is_word(words, "unpack") {

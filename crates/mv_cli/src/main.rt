@@ -1,14 +1,12 @@
 //! mv_cli, an extractor of sub-bitstreams of MV-HEVC byte streams: `mv_cli extract N` reads a byte stream
 //! from the standard input, checks it, and writes the units that are kept for output layer set N on the standard output as
 //! they come; `mv_cli check` checks it alone, and writes its totals.
-//! `pack` and `unpack` carry units to the length-prefixed form and back, and `gen` makes a stream from a number.
+//! `pack` and `unpack` carry units to the length-prefixed form and back.
 #![tactic(auto)]
 
 mod command;
 mod ending;
 mod line;
-#[cfg(test)]
-mod made_tests;
 mod run;
 #[cfg(test)]
 mod tests;

@@ -1,5 +1,5 @@
 ghost use Rattle.std.specs.Prelude.{◌≡◌, ◌≢◌, false, ◌^◌, IsTrue, map, string_bytes};
-ghost use Rattle.mv_cli.specs.Answers.{Answers, Caused, Checks, Headline, Makes, Tells, WritesLine};
+ghost use Rattle.mv_cli.specs.Answers.{Answers, Caused, Checks, Headline, Tells, WritesLine};
 ghost use Rattle.mv_cli.specs.Ending.{line_of};
 ghost use Rattle.mv_io.specs.Call.{input_of, output_of};
 
@@ -7,9 +7,9 @@ use crate::command::{Command, command_of};
 use crate::ending::Ending;
 use crate::line::{accepted, tell};
 use mv_extract::{ExtractError, check, extract};
-use mv_gen::{GenerateError, generate};
 use mv_io::{Sink, Source, write_all};
 use mv_lenform::{pack, unpack};
+use mv_show::show;
 use std::alloc::Global;
 
 /// The most bytes of input that `run` takes: 2^40.
@@ -42,10 +42,8 @@ pub fn run<S: Source, K: Sink, E: Sink>(
 ///
 /// With the words `extract` and N the units of a byte stream that are kept for output layer set N are written on the output,
 /// each behind the bytes `00 00 00 01`, and the stream is checked; with `check` it is checked alone, and its totals are
-/// written; with `pack` all its units, each behind its length in four bytes; with `unpack` the units of a string in that form,
-/// each behind the bytes `00 00 00 01`. Each is written as soon as it is taken whole. With `gen`, a number and a count nothing is
-/// read, and the stream that is made from the number, with so many access units, is written, each unit behind the bytes
-/// `00 00 00 01`. The status is 0 where that was done, or where the stream is
+/// written; with `show` it is checked, and the text of its units is written; with `pack` all its units, each behind its length in four bytes; with `unpack` the units of a string in that form,
+/// each behind the bytes `00 00 00 01`. Each is written as soon as it is taken whole. The status is 0 where the stream is
 /// accepted and was read to its end, and 1 where it is refused: as soon as the bytes taken show that, and then the units before
 /// the refused one were written. 2 comes exactly where the words are others. 3 comes only where the input's count of faults
 /// rose in this call, and 4 only where the output's did. 5 is want of memory. 6 comes where a video parameter set was accepted
@@ -91,28 +89,10 @@ fn end<S: Source, K: Sink>(
     match command_of(words) {
         Some(Command::Extract(ols)) => Ending::of(extract(alloc, input, limit, ols, output)),
         Some(Command::Check) => Ending::of(check_all(alloc, input, limit, output)),
+        Some(Command::Show) => Ending::of(show(alloc, input, limit, output)),
         Some(Command::Pack) => Ending::of(pack(alloc, input, limit, output)),
         Some(Command::Unpack) => Ending::of(unpack(alloc, input, limit, output)),
-        Some(Command::Gen { number, count }) => {
-            Ending::of(make_stream(alloc, number, count, output))
-        }
         None => Ending::Usage,
-    }
-}
-
-// Writes the stream that is made from a number.
-fn make_stream<K: Sink>(
-    alloc: Global,
-    number: u64,
-    count: u32,
-    output: &mut K,
-) -> Result<(), ExtractError>
-    ensures { Makes number count (output_of (K.state output.old) (K.state output.new)) result }
-{
-    match generate(alloc, number, count, output) {
-        Ok(()) => Ok(()),
-        Err(GenerateError::Write) => Err(ExtractError::Write),
-        Err(GenerateError::Memory) => Err(ExtractError::Memory),
     }
 }
 

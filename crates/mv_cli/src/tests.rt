@@ -354,7 +354,7 @@ fn answers_usage(rt: &impl Abort, alloc: Global, words: &[&str]) -> Result<(), F
 
 #[test]
 fn other_words(rt: HostRuntime) -> Result<(), Fail> {
-    let forms: [&[&str]; 22] = [
+    let forms: [&[&str]; 15] = [
         &[],
         &["extract"],
         &["extract", ""],
@@ -367,13 +367,6 @@ fn other_words(rt: HostRuntime) -> Result<(), Fail> {
         &["check", "0"],
         &["digest", "0"],
         &["gen", "7", "0"],
-        &["gen", "7"],
-        &["gen", "7", "1000001"],
-        &["gen", "18446744073709551616", "1"],
-        &["gen", "000000000000000000007", "1"],
-        &["gen", "7", "00000001"],
-        &["gen", "7", "+1"],
-        &["gen", "7", "1", "sum"],
         &["-h"],
         &["--help"],
         &["help"],
@@ -385,7 +378,7 @@ fn other_words(rt: HostRuntime) -> Result<(), Fail> {
         &rt,
         rt.alloc(),
         &Row {
-            words: &["show"],
+            words: &["digest"],
             failing_reads: &[0],
             failing_writes: &[0],
             failing_faults: &[0],

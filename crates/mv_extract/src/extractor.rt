@@ -37,11 +37,11 @@ impl<K: Sink> Visitor for Extractor<K> {
         out: &mut K,
     ) -> Result<(), Ending<WorkFault>> {
         let _ = number;
-        let kept = match accept(&mut self.walker, found) {
-            Ok(kept) => kept,
+        let step = match accept(&mut self.walker, found) {
+            Ok(step) => step,
             Err(ending) => return Err(ending),
         };
-        if !kept {
+        if !step.kept {
             return Ok(());
         }
         match frame(out, found.unit) {

@@ -1,12 +1,13 @@
-use Rattle.std.proofs.Common.{length, refl, subst}
+use Rattle.std.proofs.Common.{length, subst}
 use Rattle.mv_judging.specs.Format.{byte_stream}
 use Rattle.mv_extract.specs.Text.{extraction, total}
 use Rattle.mv_prefixed.specs.Form.{length_form}
 use Rattle.mv_lenform.specs.Carrying.{carrying}
+use Rattle.mv_show.specs.Text.{showing}
 use Rattle.mv_lenform.specs.declared.carrier.Target.TheVariants.{Framed, Prefixed}
-use Rattle.mv_cli.specs.declared.command.Command.TheVariants.{Check, Extract, Gen, Pack, Unpack}
+use Rattle.mv_cli.specs.declared.command.Command.TheVariants.{Check, Extract, Pack, Show, Unpack}
 use Rattle.mv_cli.specs.Words.{Means}
-use Rattle.mv_cli.proofs.Headline.{as_plain, caused_by, less, makes_plain}
+use Rattle.mv_cli.proofs.Headline.{as_plain, caused_by, less}
 use Rattle.mv_cli.proofs.run.end.Goals as goal
 
 pub returns-in-Some-Extract : goal.returns-in-Some-Extract
@@ -19,6 +20,11 @@ returns-in-Some-Check g c =
     caused_by _ c.args.limit _ _ Check c.check_all.result c.of-in-Some-Check.result (subst (Means _) c.in-Some-Check.field-0-is c.in-Some-Check.ensures)
     (as_plain c.args.limit _ _ c.check_all.result c.check_all.ensures) c.of-in-Some-Check.ensures
 
+pub returns-in-Some-Show : goal.returns-in-Some-Show
+returns-in-Some-Show g c =
+    caused_by _ c.args.limit _ _ Show c.show.result c.of-in-Some-Show.result (subst (Means _) c.in-Some-Show.field-0-is c.in-Some-Show.ensures)
+    (less byte_stream showing (total 0) c.args.limit _ _ c.show.result c.show.ensures.answers) c.of-in-Some-Show.ensures
+
 pub returns-in-Some-Pack : goal.returns-in-Some-Pack
 returns-in-Some-Pack g c =
     caused_by _ c.args.limit _ _ Pack c.pack.result c.of-in-Some-Pack.result (subst (Means _) c.in-Some-Pack.field-0-is c.in-Some-Pack.ensures)
@@ -28,8 +34,3 @@ pub returns-in-Some-Unpack : goal.returns-in-Some-Unpack
 returns-in-Some-Unpack g c =
     caused_by _ c.args.limit _ _ Unpack c.unpack.result c.of-in-Some-Unpack.result (subst (Means _) c.in-Some-Unpack.field-0-is c.in-Some-Unpack.ensures)
     (less length_form (carrying Framed) length c.args.limit _ _ c.unpack.result c.unpack.ensures.answers) c.of-in-Some-Unpack.ensures
-
-pub returns-in-Some-Gen : goal.returns-in-Some-Gen
-returns-in-Some-Gen g c =
-    caused_by _ c.args.limit _ _ (Gen c.in-Some-Gen.number c.in-Some-Gen.count) c.make_stream.result c.of-in-Some-Gen.result (subst (Means _) c.in-Some-Gen.field-0-is c.in-Some-Gen.ensures)
-    (refl, makes_plain c.in-Some-Gen.number c.in-Some-Gen.count _ c.make_stream.result c.make_stream.ensures) c.of-in-Some-Gen.ensures

@@ -1,0 +1,4 @@
+pub mod Shower
+pub mod Text
+pub mod UnitText
+pub mod Walked
