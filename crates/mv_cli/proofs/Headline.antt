@@ -1,5 +1,5 @@
 -- The headline, from the cause of the ending and its line.
-use Rattle.std.proofs.Common.{◌≡◌, ◌≢◌, ℕ, ◌≤◌, get_or, length, ◌⊎◌, inl, inr, List, [], ◌∷◌, ◌∙◌, Option, None, Some, Result, Ok, Err, IfSome, refl, ap, sym, subst, arith}
+use Rattle.std.proofs.Common.{◌≡◌, ℕ, ◌≤◌, length, ◌⊎◌, inl, inr, List, [], ◌∷◌, ◌∙◌, Option, None, Some, Result, Ok, Err, IfSome, refl, ap, sym, subst, arith}
 use Rattle.std.specs.Prelude.{⊤, codes}
 use Rattle.std.specs.Str.Parse.{digits_value}
 use Rattle.mv_rules.specs.declared.refusal.Refusal.{Refusal}
@@ -23,14 +23,12 @@ use Rattle.mv_extract.proofs.Settled.{settles}
 use Rattle.mv_extract.proofs.Accepted.{pictures-sound}
 use Rattle.mv_extract.proofs.Commuted.{extracted}
 use Rattle.mv_extract.proofs.Lacking.{lacks-none, lacks-only}
-use Rattle.mv_show.specs.Text.{showing}
-use Rattle.mv_show.proofs.Lacking.{shows-all}
 use Rattle.mv_lenform.proofs.Carried.{lacks-none as carries-all, nobody-sound}
 use Rattle.mv_lenform.specs.declared.carrier.Target.TheVariants.{Framed, Prefixed}
 use Rattle.mv_cli.specs.declared.ending.Ending.{Ending}
 use Rattle.mv_cli.specs.declared.ending.Ending.TheVariants.{Done, Refused, Usage, ReadFault, WriteFault, NoMemory, NoSuchSet, TooLong}
 use Rattle.mv_cli.specs.declared.command.Command.{Command}
-use Rattle.mv_cli.specs.declared.command.Command.TheVariants.{Extract, Check, Show, Pack, Unpack}
+use Rattle.mv_cli.specs.declared.command.Command.TheVariants.{Extract, Check, Pack, Unpack}
 use Rattle.mv_cli.specs.Answers.{Answered, Caused, Checks, ChecksAlone, Does, Headline, Tells, answer_status, decided_by, due_status, form_of, stop_status, task_of}
 use Rattle.mv_cli.specs.Ending.{ending_of, lacking_line, line_of, refusal_line, status_of}
 use Rattle.mv_cli.specs.Words.{IsExtract, Means}
@@ -53,7 +51,6 @@ by_status command (Some was) limit answer h = decided_status answer (decided_by 
 sound : (command : Command) → IsSound (form_of command) (task_of command).judge
 sound (Extract n) = pictures-sound n
 sound Check = pictures-sound 0
-sound Show = pictures-sound 0
 sound Pack = nobody-sound _ stream-format
 sound Unpack = nobody-sound _ form-of
 
@@ -77,35 +74,25 @@ one_number words m n first second =
 not_alone : {A : Type 0} (words : List (List ℕ)) (n : ℕ) (word : List ℕ) → IsExtract words n → words ≡ word ∷ [] → A
 not_alone words n word extracts alone = absurd (let h : codes "extract" ∷ extracts.word ∷ [] ≡ word ∷ [] = sym extracts.both ∙ alone in cc)
 
--- words that begin with other letters
-differ : {A : Type 0} (words : List (List ℕ)) (a b : List ℕ) → get_or a 0 0 ≢ get_or b 0 0 → words ≡ a ∷ [] → words ≡ b ∷ [] → A
-differ words a b other first second = absurd (other (ap (λ (ws : List (List ℕ)). get_or (get_or ws 0 []) 0 0) (sym first ∙ second)))
+differ : {A : Type 0} (words : List (List ℕ)) (a b : List ℕ) → (a ∷ [] ≡ b ∷ [] → ⊥) → words ≡ a ∷ [] → words ≡ b ∷ [] → A
+differ words a b isnt first second = absurd (isnt (sym first ∙ second))
 
 only : (words : List (List ℕ)) (a b : Command) → Means words a → Means words b → a ≡ b
 only words (Extract m) (Extract n) first second = ap Extract (one_number words m n first second)
 only words (Extract m) Check first second = not_alone words m (codes "check") first second
-only words (Extract m) Show first second = not_alone words m (codes "show") first second
 only words (Extract m) Pack first second = not_alone words m (codes "pack") first second
 only words (Extract m) Unpack first second = not_alone words m (codes "unpack") first second
 only words Check (Extract n) first second = not_alone words n (codes "check") second first
 only words Check Check first second = refl
-only words Check Show first second = differ words (codes "check") (codes "show") (λ h. let wrong : 99 ≡ 115 = h in omega (arith, wrong)) first second
-only words Check Pack first second = differ words (codes "check") (codes "pack") (λ h. let wrong : 99 ≡ 112 = h in omega (arith, wrong)) first second
-only words Check Unpack first second = differ words (codes "check") (codes "unpack") (λ h. let wrong : 99 ≡ 117 = h in omega (arith, wrong)) first second
-only words Show (Extract n) first second = not_alone words n (codes "show") second first
-only words Show Check first second = differ words (codes "show") (codes "check") (λ h. let wrong : 115 ≡ 99 = h in omega (arith, wrong)) first second
-only words Show Show first second = refl
-only words Show Pack first second = differ words (codes "show") (codes "pack") (λ h. let wrong : 115 ≡ 112 = h in omega (arith, wrong)) first second
-only words Show Unpack first second = differ words (codes "show") (codes "unpack") (λ h. let wrong : 115 ≡ 117 = h in omega (arith, wrong)) first second
+only words Check Pack first second = differ words (codes "check") (codes "pack") (λ h. cc) first second
+only words Check Unpack first second = differ words (codes "check") (codes "unpack") (λ h. cc) first second
 only words Pack (Extract n) first second = not_alone words n (codes "pack") second first
-only words Pack Check first second = differ words (codes "pack") (codes "check") (λ h. let wrong : 112 ≡ 99 = h in omega (arith, wrong)) first second
-only words Pack Show first second = differ words (codes "pack") (codes "show") (λ h. let wrong : 112 ≡ 115 = h in omega (arith, wrong)) first second
+only words Pack Check first second = differ words (codes "pack") (codes "check") (λ h. cc) first second
 only words Pack Pack first second = refl
-only words Pack Unpack first second = differ words (codes "pack") (codes "unpack") (λ h. let wrong : 112 ≡ 117 = h in omega (arith, wrong)) first second
+only words Pack Unpack first second = differ words (codes "pack") (codes "unpack") (λ h. cc) first second
 only words Unpack (Extract n) first second = not_alone words n (codes "unpack") second first
-only words Unpack Check first second = differ words (codes "unpack") (codes "check") (λ h. let wrong : 117 ≡ 99 = h in omega (arith, wrong)) first second
-only words Unpack Show first second = differ words (codes "unpack") (codes "show") (λ h. let wrong : 117 ≡ 115 = h in omega (arith, wrong)) first second
-only words Unpack Pack first second = differ words (codes "unpack") (codes "pack") (λ h. let wrong : 117 ≡ 112 = h in omega (arith, wrong)) first second
+only words Unpack Check first second = differ words (codes "unpack") (codes "check") (λ h. cc) first second
+only words Unpack Pack first second = differ words (codes "unpack") (codes "pack") (λ h. cc) first second
 only words Unpack Unpack first second = refl
 
 -- what a call answered, less what is answered of the units
@@ -183,7 +170,6 @@ does_settle : (command : Command) (limit : ℕ) (input : Input) (output : Output
     IfSome input.old.told (λ was. IsDue (decided_by command limit was.left) answer)
 does_settle (Extract n) limit input output answer works = settles byte_stream (extraction n) nothing limit input output answer (sound (Extract n)) works
 does_settle Check limit input output answer works = checks_settle limit input output answer works
-does_settle Show limit input output answer works = settles byte_stream showing nothing limit input output answer (sound Show) works
 does_settle Pack limit input output answer works = settles byte_stream (task_of Pack) nothing limit input output answer (sound Pack) works
 does_settle Unpack limit input output answer works = settles (form_of Unpack) (task_of Unpack) nothing limit input output answer (sound Unpack) works
 
@@ -208,7 +194,6 @@ lacking_by words limit input output faults asked count (Extract n) means does to
     let names = lacks-only nothing n limit input output (Err (Lacks asked count)) does in
     (n, count, means, subst (λ a. Does (Extract n) limit input output (Err (Lacks a count))) names.0 does, names.1, subst (λ a. Tells faults (lacking_line a count)) names.0 told)
 lacking_by words limit input output faults asked count Check means does told = absurd (lacks-none (total 0) limit input no_sink asked count does.checks)
-lacking_by words limit input output faults asked count Show means does told = absurd (shows-all nothing limit input output asked count does)
 lacking_by words limit input output faults asked count Pack means does told = absurd (carries-all byte_stream Prefixed nothing limit input output asked count does)
 lacking_by words limit input output faults asked count Unpack means does told = absurd (carries-all length_form Framed nothing limit input output asked count does)
 

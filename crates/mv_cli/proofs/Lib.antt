@@ -1,5 +1,5 @@
 pub mod Checking
-pub mod Few
 pub mod Headline
 pub mod Numbers
 pub mod Telling
+pub mod Two

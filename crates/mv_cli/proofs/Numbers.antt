@@ -7,27 +7,27 @@ use Rattle.std.proofs.lemmas.Bool.{ne_eqb}
 use Rattle.mv_cli.specs.Words.{IsNumber, IsSigned}
 
 -- a word that begins with a plus writes no number
-pub unsigned : (most bound : ℕ) (word : List ℕ) (n : ℕ) → IsNumber most bound word n → ¬ IsSigned word
-unsigned most bound [] n number signed = let h = number.digits.0 in omega (arith, h)
-unsigned most bound (c ∷ cs) n number signed =
+pub unsigned : (word : List ℕ) (n : ℕ) → IsNumber word n → ¬ IsSigned word
+unsigned [] n number signed = let h = number.digits.0 in omega (arith, h)
+unsigned (c ∷ cs) n number signed =
     let plus : digit_value 43 < 10 = subst (λ d. digit_value d < 10) signed number.digits.1.0 in omega (arith, plus)
 
 unplussed : (word : List ℕ) → ¬ IsSigned word → without_leading_plus word ≡ word
 unplussed word isnt = ap (λ b. drop (cond b 1 0) word) (ne_eqb (slice_index word 0) 43 isnt)
 
 -- what was parsed of a word without a plus
-pub parsed : (most bound : ℕ) (word : List ℕ) (n : ℕ) → ¬ IsSigned word → length word ≤ most → IsNumeral 10 (without_leading_plus word) → n ≡ digits_value 10 (without_leading_plus word) → n < bound → IsNumber most bound word n
-parsed most bound word n isnt short numeral is below =
+pub parsed : (word : List ℕ) (n : ℕ) → ¬ IsSigned word → length word ≤ 10 → IsNumeral 10 (without_leading_plus word) × (digits_value 10 (without_leading_plus word) < 2 ^ 32) → n ≡ digits_value 10 (without_leading_plus word) → IsNumber word n
+parsed word n isnt short reads is =
     let same = unplussed word isnt in
+    let value : n ≡ digits_value 10 word = subst (λ w. n ≡ digits_value 10 w) same is in
     record {
-      digits = subst (IsNumeral 10) same numeral;
+      digits = subst (IsNumeral 10) same reads.0;
       short = short;
-      value = subst (λ w. n ≡ digits_value 10 w) same is;
-      below = below;
+      value = value;
+      below = subst (λ m. m < 2 ^ 32) (sym is) reads.1;
     }
 
-pub unparsed : (most bound : ℕ) (word : List ℕ) (n : ℕ) → bound ≤ 2 ^ 64 → ¬ IsSigned word → ¬ (IsNumeral 10 (without_leading_plus word) × (digits_value 10 (without_leading_plus word) < 2 ^ 64)) → ¬ IsNumber most bound word n
-unparsed most bound word n few isnt fails number =
+pub unparsed : (word : List ℕ) (n : ℕ) → ¬ IsSigned word → ¬ (IsNumeral 10 (without_leading_plus word) × (digits_value 10 (without_leading_plus word) < 2 ^ 32)) → ¬ IsNumber word n
+unparsed word n isnt fails number =
     let same = sym (unplussed word isnt) in
-    let low : digits_value 10 word < 2 ^ 64 = subst (λ m. m < 2 ^ 64) number.value (let below = number.below in omega (arith, below, few)) in
-    fails (subst (IsNumeral 10) same number.digits, subst (λ w. digits_value 10 w < 2 ^ 64) same low)
+    fails (subst (IsNumeral 10) same number.digits, subst (λ w. digits_value 10 w < 2 ^ 32) same (subst (λ m. m < 2 ^ 32) number.value number.below))

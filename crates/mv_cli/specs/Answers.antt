@@ -12,13 +12,12 @@ use Rattle.mv_extract.specs.Answers.{Answers as Works}
 use Rattle.mv_extract.specs.Commutes.{Extracted}
 use Rattle.mv_extract.specs.Task.{Task}
 use Rattle.mv_extract.specs.Text.{checking, extraction, no_sink, nothing, total}
-use Rattle.mv_show.specs.Text.{showing}
 use Rattle.mv_walk.specs.declared.step.Totals.{Totals}
 use Rattle.mv_prefixed.specs.Form.{length_form}
 use Rattle.mv_lenform.specs.Carrying.{carrying}
 use Rattle.mv_lenform.specs.declared.carrier.Target.TheVariants.{Prefixed, Framed}
 use Rattle.mv_cli.specs.declared.command.Command.{Command}
-use Rattle.mv_cli.specs.declared.command.Command.TheVariants.{Extract, Check, Show, Pack, Unpack}
+use Rattle.mv_cli.specs.declared.command.Command.TheVariants.{Extract, Check, Pack, Unpack}
 use Rattle.mv_io.specs.Call.{Input, Output, InputRose, OutputRose, Untouched}
 use Rattle.mv_cli.specs.declared.ending.Ending.{Ending}
 use Rattle.mv_cli.specs.declared.ending.Ending.TheVariants.{Done, Refused, Usage, ReadFault, WriteFault, NoMemory, NoSuchSet, TooLong}
@@ -26,19 +25,17 @@ use Rattle.mv_cli.specs.Ending.{accepted_line, lacking_line, status_of, line_of,
 use Rattle.mv_cli.specs.Words.{IsForm, Means, usage_line}
 
 -- the form in which a command takes its units, and what it does of them: `extract N` judges the pictures of a byte stream
--- where set N is asked for, and writes the units that are kept for it, framed; `check` judges them where set 0 is, and so does `show`, which
--- writes the text of all units; `pack` writes all units of a byte stream, and `unpack` those of a string in the length-prefixed form, in the other form
+-- where set N is asked for, and writes the units that are kept for it, framed; `check` judges them where set 0 is; `pack`
+-- writes all units of a byte stream, and `unpack` those of a string in the length-prefixed form, in the other form
 abbrev pub form_of : Command → Format
 form_of (Extract n) = byte_stream
 form_of Check = byte_stream
-form_of Show = byte_stream
 form_of Pack = byte_stream
 form_of Unpack = length_form
 
 abbrev pub task_of : Command → Task
 task_of (Extract n) = extraction n
 task_of Check = checking
-task_of Show = showing
 task_of Pack = carrying Prefixed
 task_of Unpack = carrying Framed
 
@@ -73,7 +70,6 @@ Checks limit input output (Err Memory) = ChecksAlone limit input output Memory
 abbrev pub Does : Command → ℕ → Input → Output → Result ⊤ ExtractError → Type 0
 Does (Extract n) limit input output answer = Works byte_stream (extraction n) nothing limit input output answer
 Does Check limit input output answer = Checks limit input output answer
-Does Show limit input output answer = Works byte_stream showing nothing limit input output answer
 Does Pack limit input output answer = Works byte_stream (carrying Prefixed) nothing limit input output answer
 Does Unpack limit input output answer = Works length_form (carrying Framed) nothing limit input output answer
 

@@ -9,7 +9,6 @@ use crate::line::{accepted, tell};
 use mv_extract::{ExtractError, check, extract};
 use mv_io::{Sink, Source, write_all};
 use mv_lenform::{pack, unpack};
-use mv_show::show;
 use std::alloc::Global;
 
 /// The most bytes of input that `run` takes: 2^40.
@@ -42,7 +41,7 @@ pub fn run<S: Source, K: Sink, E: Sink>(
 ///
 /// With the words `extract` and N the units of a byte stream that are kept for output layer set N are written on the output,
 /// each behind the bytes `00 00 00 01`, and the stream is checked; with `check` it is checked alone, and its totals are
-/// written; with `show` it is checked, and the text of its units is written; with `pack` all its units, each behind its length in four bytes; with `unpack` the units of a string in that form,
+/// written; with `pack` all its units, each behind its length in four bytes; with `unpack` the units of a string in that form,
 /// each behind the bytes `00 00 00 01`. Each is written as soon as it is taken whole. The status is 0 where the stream is
 /// accepted and was read to its end, and 1 where it is refused: as soon as the bytes taken show that, and then the units before
 /// the refused one were written. 2 comes exactly where the words are others. 3 comes only where the input's count of faults
@@ -89,7 +88,6 @@ fn end<S: Source, K: Sink>(
     match command_of(words) {
         Some(Command::Extract(ols)) => Ending::of(extract(alloc, input, limit, ols, output)),
         Some(Command::Check) => Ending::of(check_all(alloc, input, limit, output)),
-        Some(Command::Show) => Ending::of(show(alloc, input, limit, output)),
         Some(Command::Pack) => Ending::of(pack(alloc, input, limit, output)),
         Some(Command::Unpack) => Ending::of(unpack(alloc, input, limit, output)),
         None => Ending::Usage,

@@ -378,7 +378,7 @@ fn other_words(rt: HostRuntime) -> Result<(), Fail> {
         &rt,
         rt.alloc(),
         &Row {
-            words: &["digest"],
+            words: &["show"],
             failing_reads: &[0],
             failing_writes: &[0],
             failing_faults: &[0],

@@ -138,23 +138,6 @@ fn extracts_however_cut(rt: HostRuntime) -> Result<(), Fail> {
     )
 }
 
-#[test]
-fn shows_each_unit(rt: HostRuntime) -> Result<(), Fail> {
-    let alloc = rt.alloc();
-    let long = stream(alloc, &TWO_VIEW, LONG_CODE)?;
-    let mut words = Vec::new(alloc);
-    words.push(String::from_str(alloc, "show")?)?;
-    let mut source = MemSource::new(alloc, &long, &[], &[])?;
-    let mut written = MemSink::new(alloc, 20000, &[])?;
-    let mut faults = MemSink::new(alloc, 1000, &[])?;
-    let answered = run_within(alloc, &words, &mut source, &mut written, &mut faults, 1000);
-    assert_eq!(rt; answered, 0);
-    assert_eq!(rt; front(written.bytes(), 31), b"unit 0 at 4: layer 0 tid 0 VPS\n");
-    assert_eq!(rt; written.bytes().len(), 8455);
-    assert_eq!(rt; faults.bytes().len(), 0);
-    Ok(())
-}
-
 // The first bytes of a stream, or all of them where it has fewer.
 fn front<'a>(bytes: &'a [u8], len: usize) -> &'a [u8] {
     if len <= bytes.len() {

@@ -49,7 +49,7 @@ going-first f m start first Holds limit source reading fresh holds means begins 
           means = means;
           counted = sym fresh.given;
           accepted = ap (judged (m.judge start)) none ∙ judged-nothing (m.judge start);
-          stands = subst (m.stands start start first first) (sym none) begins.stands;
+          stands = subst (m.stands start start) (sym none) begins.stands;
           wrote = subst (m.wrote start first first) (sym none) begins.wrote;
         };
         nothing_waits = fresh.waiting;

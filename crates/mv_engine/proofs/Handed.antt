@@ -92,7 +92,7 @@ unit-handled f m start first Holds Then now new out written reading next number 
         means = means;
         counted = let counted = handled.counted in omega arith;
         accepted = ap (judged (m.judge start)) all ∙ none_late (m.judge start) done u handled.accepted visits.0;
-        stands = subst (m.stands start new first written) (sym all) visits.1;
+        stands = subst (m.stands start new) (sym all) visits.1;
         wrote = subst (m.wrote start first written) (sym all) visits.2;
       },
       ap (λ (x : Reading). x.waiting) same,
@@ -147,7 +147,7 @@ unit-failed f m start first Holds now new out written reading number s u (Fault 
     }
 
 -- the end was handed to the visitor, behind all units
-pub end-closed : {V O F : Type 0} (f : Format) (m : Meaning V O F) (start : V) (first : O) (now new : V) (out written : O) (number taken : ℕ) (s : List ℕ) (answer : Result ⊤ (DriveError F)) → AllHanded f (m.judge start) (m.stands start now first out) (m.wrote start first out) true number s → taken ≡ length s →
+pub end-closed : {V O F : Type 0} (f : Format) (m : Meaning V O F) (start : V) (first : O) (now new : V) (out written : O) (number taken : ℕ) (s : List ℕ) (answer : Result ⊤ (DriveError F)) → AllHanded f (m.judge start) (m.stands start now) (m.wrote start first out) true number s → taken ≡ length s →
     ClosesOne m start new first written number taken (f.whole true s) answer → HandlesEnd f m start new first written s answer
 end-closed f m start first now new out written number taken s (Ok done) all bytes closes =
     let j = m.judge start in (

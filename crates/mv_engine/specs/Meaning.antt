@@ -11,8 +11,8 @@ pub record Meaning (V O F : Type 0) : Type 1 where
   pub opens : V → Type 0
   -- what it objects to
   pub judge : V → Judge
-  -- what became of it, and of what is written on, once it was handed these units, all of which were accepted
-  pub stands : V → V → O → O → List NalUnit → Type 0
+  -- what became of it once it was handed these units, all of which were accepted
+  pub stands : V → V → List NalUnit → Type 0
   -- what became of what is written on, by the first of the two: these units were written, and nothing else
   pub wrote : V → O → O → List NalUnit → Type 0
   -- what became of both once the end was taken too
@@ -22,7 +22,7 @@ pub record Meaning (V O F : Type 0) : Type 1 where
 
 -- a visitor that may begin was handed nothing, and nothing was written
 pub record Begins {V O F : Type 0} (m : Meaning V O F) (start : V) (first : O) : Type 0 where
-  pub stands : m.stands start start first first []
+  pub stands : m.stands start start []
   pub wrote : m.wrote start first first []
 
 -- a visitor may be handed a unit with that number: it was handed as many before it, and the unit breaks no rule on
@@ -32,7 +32,7 @@ pub record Ready {V O F : Type 0} (m : Meaning V O F) (now : V) (out : O) (numbe
   pub first : O
   pub units : List NalUnit
   pub opens : m.opens start
-  pub stands : m.stands start now first out units
+  pub stands : m.stands start now units
   pub wrote : m.wrote start first out units
   pub counted : number ≡ length units
   pub countable : number + 1 < 2 ^ 64
@@ -44,7 +44,7 @@ pub record ReadyToEnd {V O F : Type 0} (m : Meaning V O F) (now : V) (out : O) :
   pub first : O
   pub units : List NalUnit
   pub opens : m.opens start
-  pub stands : m.stands start now first out units
+  pub stands : m.stands start now units
   pub wrote : m.wrote start first out units
 
 -- a visitor couldn't go on: before it wrote of the unit u, or once it had accepted it
@@ -56,7 +56,7 @@ FailsAt m start first out us u fault =
 -- each answer to a unit behind others: it is accepted and written, or objected to and not written
 abbrev pub Visits : {V O F : Type 0} → Meaning V O F → V → O → V → O → List NalUnit → NalUnit → Result ⊤ (Ending F) → Type 0
 Visits m start first new out us u (Ok _) =
-    ((m.judge start).late us u ≡ None) × m.stands start new first out (us ++ u ∷ []) × m.wrote start first out (us ++ u ∷ [])
+    ((m.judge start).late us u ≡ None) × m.stands start new (us ++ u ∷ []) × m.wrote start first out (us ++ u ∷ [])
 Visits m start first new out us u (Err (Objects why)) = ((m.judge start).late us u ≡ Some why) × m.wrote start first out us
 Visits m start first new out us u (Err (Fault fault)) = FailsAt m start first out us u fault
 

@@ -31,7 +31,7 @@ abbrev pub writing : {V O F : Type 0} → (O → SinkState) → Writer V → Mea
 writing state w = record {
   opens = w.opens;
   judge = w.judge;
-  stands = λ start now first out us. w.stands start now us;
+  stands = w.stands;
   wrote = λ start first now us. Gained (state first) (state now) (w.text start us);
   closed = λ start last first now us. w.stands start last us × Gained (state first) (state now) (w.text start us ++ w.closing start us);
   failed = λ start first now ended us fault.

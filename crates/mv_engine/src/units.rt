@@ -111,7 +111,7 @@ fn visit<V: Visitor>(
     out: &mut V::Out,
 ) -> Result<(), DriveError<V::Fault>>
     requires ready { Ready V.meaning visitor.old out.old number (found_unit found.now) }
-    ensures visits { (start : V) (first : V.Out) (us : List NalUnit) → V.meaning.stands start visitor.old first out.old us →
+    ensures visits { (start : V) (first : V.Out) (us : List NalUnit) → V.meaning.stands start visitor.old us →
         V.meaning.wrote start first out.old us → number ≡ length us →
         VisitsOne V.meaning start first visitor.new out.new number us (found_unit found.now) result }
 {
@@ -134,7 +134,7 @@ fn close<V: Visitor>(
     out: &mut V::Out,
 ) -> Result<(), DriveError<V::Fault>>
     requires ready { ReadyToEnd V.meaning visitor.old out.old }
-    ensures closes { (start : V) (first : V.Out) (us : List NalUnit) → V.meaning.stands start visitor.old first out.old us →
+    ensures closes { (start : V) (first : V.Out) (us : List NalUnit) → V.meaning.stands start visitor.old us →
         V.meaning.wrote start first out.old us →
         ClosesOne V.meaning start visitor.new first out.new number taken us result }
 {

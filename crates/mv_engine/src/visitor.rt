@@ -33,7 +33,7 @@ pub trait Visitor {
         out: &mut Self::Out,
     ) -> Result<(), Ending<Self::Fault>>
         requires ready { Ready meaning self.old out.old number (found_unit found.now) }
-        ensures visits { (start : Self) (first : Self.Out) (us : List NalUnit) → meaning.stands start self.old first out.old us →
+        ensures visits { (start : Self) (first : Self.Out) (us : List NalUnit) → meaning.stands start self.old us →
             meaning.wrote start first out.old us → number ≡ length us →
             Visits meaning start first self.new out.new us (found_unit found.now) result };
 
@@ -44,7 +44,7 @@ pub trait Visitor {
     /// `Objects` exactly where the visitor's judge objects to the end. `Fault` where the visitor can't go on.
     fn end(&mut self, out: &mut Self::Out) -> Result<(), Ending<Self::Fault>>
         requires ready { ReadyToEnd meaning self.old out.old }
-        ensures ends { (start : Self) (first : Self.Out) (us : List NalUnit) → meaning.stands start self.old first out.old us →
+        ensures ends { (start : Self) (first : Self.Out) (us : List NalUnit) → meaning.stands start self.old us →
             meaning.wrote start first out.old us →
             Ends meaning start first self.new out.new us result };
 

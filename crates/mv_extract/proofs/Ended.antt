@@ -31,10 +31,10 @@ pub record IsSound (f : Format) (j : Judge) : Type 0 where
   pub format : IsFormat f
   pub late : IsLate f j
 
-pub silent : (f : Format) (j : Judge) → IsSound f j → (s : List ℕ) → seen f j false s ≡ None → ShowNothing f j s
+silent : (f : Format) (j : Judge) → IsSound f j → (s : List ℕ) → seen f j false s ≡ None → ShowNothing f j s
 silent f j is s quiet = λ e. shows-nothing f j s e is.format is.late quiet
 
-pub decided : (f : Format) (j : Judge) → IsSound f j → (taken : List ℕ) (ended : Bool) (stop : Stop) → seen f j ended taken ≡ Some stop → Decide f j taken ended (Some stop)
+decided : (f : Format) (j : Judge) → IsSound f j → (taken : List ℕ) (ended : Bool) (stop : Stop) → seen f j ended taken ≡ Some stop → Decide f j taken ended (Some stop)
 decided f j is taken true stop shown = shown
 decided f j is taken false stop shown = shows-seen f j taken stop is.format shown
 
@@ -42,7 +42,7 @@ decided f j is taken false stop shown = shows-seen f j taken stop is.format show
 abbrev pub Worked : {V O : Type 0} → Format → (O → SinkState) → Worker V → V → V → O → O → ℕ → Input → Result ⊤ (DriveError WorkFault) → Type 0
 Worked f state w start new first out limit input answer = Driven f (working state w) start new first out limit input answer
 
-pub halts : {V O : Type 0} (f : Format) (state : O → SinkState) (w : Worker V) (start new : V) (first out : O) (limit : ℕ) (input : Input) (stop : Stop) → IsSound f (w.task start).judge → Worked f state w start new first out limit input (Err (Stopped stop)) →
+halts : {V O : Type 0} (f : Format) (state : O → SinkState) (w : Worker V) (start new : V) (first out : O) (limit : ℕ) (input : Input) (stop : Stop) → IsSound f (w.task start).judge → Worked f state w start new first out limit input (Err (Stopped stop)) →
     Halts f (w.task start) limit input (output_of (state first) (state out)) stop
 halts f state w start new first out limit input stop is run =
     let task = w.task start in

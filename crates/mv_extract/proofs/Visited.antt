@@ -14,16 +14,13 @@ use Rattle.mv_pictures.specs.Items.{stays}
 use Rattle.mv_pictures.specs.Verdict.{bytes_of}
 use Rattle.mv_commuting.specs.OneMore.{fact_behind}
 use Rattle.mv_walk_laws.specs.Streams.{objected}
-use Rattle.mv_walk.specs.declared.step.Step.{Step}
 use Rattle.mv_walk.specs.declared.step.Totals.{Totals}
-use Rattle.mv_walk.specs.Told.{step_of}
 use Rattle.mv_extract.specs.declared.error.WorkFault.{WorkFault}
 use Rattle.mv_extract.specs.declared.error.WorkFault.TheVariants.{Write}
 use Rattle.mv_extract.specs.Accepting.{Accepts, Ends as Closes}
 use Rattle.mv_extract.specs.Extractor.{extractor}
 use Rattle.mv_extract.specs.Task.{left_by, working}
 use Rattle.mv_extract.specs.Text.{kept_text, total}
-use Rattle.mv_extract.proofs.Walked.{kept_told}
 use Rattle.mv_extract.proofs.Accepted.{bytes-push, ending-none, ending-some, late-is, text-dropped, text-kept}
 
 -- there are as many units as their bytes
@@ -47,39 +44,38 @@ accepted : {V : Type 0} (asked : V → ℕ) (walks : V → List (List ℕ) → T
 accepted asked walks start new us u same stands = (same, subst (walks new) (sym (bytes-push us u)) stands)
 
 -- what is kept, by the set that was asked for at the start
-kept_of : (o n : ℕ) (us : List NalUnit) (u : NalUnit) (step : Step) → o ≡ n → step ≡ step_of o (bytes_of us) u.bytes → step.kept ≡ stays n (fact_behind (bytes_of us) u.bytes).placed.item
-kept_of o n us u step same is =
-    ap (λ (s : Step). s.kept) is ∙ kept_told o (bytes_of us) u.bytes ∙ ap (λ m. stays m (fact_behind (bytes_of us) u.bytes).placed.item) same
+kept_of : (o n : ℕ) (us : List NalUnit) (u : NalUnit) (kept : Bool) → o ≡ n → kept ≡ stays o (fact_behind (bytes_of us) u.bytes).placed.item → kept ≡ stays n (fact_behind (bytes_of us) u.bytes).placed.item
+kept_of o n us u kept same is = is ∙ ap (λ m. stays m (fact_behind (bytes_of us) u.bytes).placed.item) same
 
 -- it is accepted and not kept
-pub drops : {V O : Type 0} (state : O → SinkState) (asked : V → ℕ) (walks : V → List (List ℕ) → Type 0) (totals : V → Totals) (start new : V) (first out : O) (us : List NalUnit) (u : NalUnit) (o : ℕ) (step : Step) →
-    o ≡ asked start → asked new ≡ asked start → Accepts o (bytes_of us) u.bytes (walks new) (Ok step) → step.kept ≡ false → Gained (state first) (state out) (kept_text (asked start) us) →
+pub drops : {V O : Type 0} (state : O → SinkState) (asked : V → ℕ) (walks : V → List (List ℕ) → Type 0) (totals : V → Totals) (start new : V) (first out : O) (us : List NalUnit) (u : NalUnit) (o : ℕ) (kept : Bool) →
+    o ≡ asked start → asked new ≡ asked start → Accepts o (bytes_of us) u.bytes (walks new) (Ok kept) → kept ≡ false → Gained (state first) (state out) (kept_text (asked start) us) →
     Visits (working state (extractor asked walks totals)) start first new out us u (Ok tt)
-drops state asked walks totals start new first out us u o step same later accepts dropped wrote = (
+drops state asked walks totals start new first out us u o kept same later accepts dropped wrote = (
   late-is (asked start) us u ∙ late_none o (asked start) us u same accepts.0,
   accepted asked walks start new us u later accepts.1,
-  gained-same _ _ (kept_text (asked start) us) _ wrote (text-dropped (asked start) us u step.kept (kept_of o (asked start) us u step same accepts.2) dropped),
+  gained-same _ _ (kept_text (asked start) us) _ wrote (text-dropped (asked start) us u kept (kept_of o (asked start) us u kept same accepts.2) dropped),
 )
 
 -- it is accepted and written
-pub frames : {V O : Type 0} (state : O → SinkState) (asked : V → ℕ) (walks : V → List (List ℕ) → Type 0) (totals : V → Totals) (start new : V) (first old out : O) (us : List NalUnit) (u : NalUnit) (o : ℕ) (step : Step) →
-    o ≡ asked start → asked new ≡ asked start → Accepts o (bytes_of us) u.bytes (walks new) (Ok step) → step.kept ≡ true → Gained (state first) (state old) (kept_text (asked start) us) →
+pub frames : {V O : Type 0} (state : O → SinkState) (asked : V → ℕ) (walks : V → List (List ℕ) → Type 0) (totals : V → Totals) (start new : V) (first old out : O) (us : List NalUnit) (u : NalUnit) (o : ℕ) (kept : Bool) →
+    o ≡ asked start → asked new ≡ asked start → Accepts o (bytes_of us) u.bytes (walks new) (Ok kept) → kept ≡ true → Gained (state first) (state old) (kept_text (asked start) us) →
     Appends (state old).taken (state out).taken (frame (u.bytes ∷ [])) → (state old).faults ≤ (state out).faults →
     Visits (working state (extractor asked walks totals)) start first new out us u (Ok tt)
-frames state asked walks totals start new first old out us u o step same later accepts kept_true wrote appends falls = (
+frames state asked walks totals start new first old out us u o kept same later accepts kept_true wrote appends falls = (
   late-is (asked start) us u ∙ late_none o (asked start) us u same accepts.0,
   accepted asked walks start new us u later accepts.1,
-  gained-then _ _ _ (kept_text (asked start) us) _ _ wrote appends falls (text-kept (asked start) us u step.kept (kept_of o (asked start) us u step same accepts.2) kept_true),
+  gained-then _ _ _ (kept_text (asked start) us) _ _ wrote appends falls (text-kept (asked start) us u kept (kept_of o (asked start) us u kept same accepts.2) kept_true),
 )
 
 -- it is accepted, and its write failed
-pub fails : {V O : Type 0} (state : O → SinkState) (asked : V → ℕ) (walks : V → List (List ℕ) → Type 0) (totals : V → Totals) (start new : V) (first old out : O) (us : List NalUnit) (u : NalUnit) (o : ℕ) (step : Step) (standing : List (List ℕ) → Type 0) →
-    o ≡ asked start → Accepts o (bytes_of us) u.bytes standing (Ok step) → step.kept ≡ true → Gained (state first) (state old) (kept_text (asked start) us) →
+pub fails : {V O : Type 0} (state : O → SinkState) (asked : V → ℕ) (walks : V → List (List ℕ) → Type 0) (totals : V → Totals) (start new : V) (first old out : O) (us : List NalUnit) (u : NalUnit) (o : ℕ) (kept : Bool) (standing : List (List ℕ) → Type 0) →
+    o ≡ asked start → Accepts o (bytes_of us) u.bytes standing (Ok kept) → kept ≡ true → Gained (state first) (state old) (kept_text (asked start) us) →
     AppendsPrefix (state old).taken (state out).taken (frame (u.bytes ∷ [])) → (state old).faults ≤ (state out).faults → Rose (state old).faults (state out).faults →
     Visits (working state (extractor asked walks totals)) start first new out us u (Err (Fault Write))
-fails state asked walks totals start new first old out us u o step standing same accepts kept_true wrote appends falls rose = inr (
+fails state asked walks totals start new first old out us u o kept standing same accepts kept_true wrote appends falls rose = inr (
   late-is (asked start) us u ∙ late_none o (asked start) us u same accepts.0,
-  gained-part _ _ _ (kept_text (asked start) us) _ _ wrote appends falls rose (text-kept (asked start) us u step.kept (kept_of o (asked start) us u step same accepts.2) kept_true),
+  gained-part _ _ _ (kept_text (asked start) us) _ _ wrote appends falls rose (text-kept (asked start) us u kept (kept_of o (asked start) us u kept same accepts.2) kept_true),
 )
 
 -- the end is accepted

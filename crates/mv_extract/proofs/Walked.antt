@@ -1,5 +1,5 @@
 -- What a walker's answers are to a run.
-use Rattle.std.proofs.Common.{◌≡◌, ℕ, List, Some, Ok, Err, refl, ap, sym, arith}
+use Rattle.std.proofs.Common.{◌≡◌, ℕ, List, Some, Ok, Err, refl, ap, sym, ◌∙◌, arith}
 use Rattle.mv_io.specs.Faults.{Rose}
 use Rattle.mv_rules.specs.declared.refusal.Refusal.{Refusal}
 use Rattle.mv_judging.specs.declared.stop.Objection.{Objection}
@@ -16,13 +16,12 @@ use Rattle.mv_extract.specs.Accepting.{Accepts, Ends, ending_of}
 pub never-rose : Rose 0 0 → ⊥
 never-rose h = omega (arith, h)
 
--- whether it is kept
-pub kept_told : (o : ℕ) (us : List (List ℕ)) (u : List ℕ) → (step_of o us u).kept ≡ stays o (fact_behind us u).placed.item
+kept_told : (o : ℕ) (us : List (List ℕ)) (u : List ℕ) → (step_of o us u).kept ≡ stays o (fact_behind us u).placed.item
 unfolding step_of
 kept_told o us u = refl
 
-pub walked : (o : ℕ) (us : List (List ℕ)) (byte : ℕ) (u : List ℕ) (stands : List (List ℕ) → Type 0) (step : Step) → Walks o us byte u stands (Ok step) → Accepts o us u stands (Ok step)
-walked o us byte u stands step walks = walks
+pub walked : (o : ℕ) (us : List (List ℕ)) (byte : ℕ) (u : List ℕ) (stands : List (List ℕ) → Type 0) (step : Step) → Walks o us byte u stands (Ok step) → Accepts o us u stands (Ok step.kept)
+walked o us byte u stands step walks = (walks.0, walks.1, ap (λ (s : Step). s.kept) walks.2 ∙ kept_told o us u)
 
 pub stopped : (o : ℕ) (us : List (List ℕ)) (byte : ℕ) (u : List ℕ) (stands : List (List ℕ) → Type 0) (error : WalkError) → Walks o us byte u stands (Err error) → Accepts o us u stands (Err (ending_of error))
 stopped o us byte u stands (Refused refusal) walks =

@@ -31,7 +31,7 @@ abbrev pub working : {V O : Type 0} → (O → SinkState) → Worker V → Meani
 working state w = record {
   opens = w.opens;
   judge = λ start. (w.task start).judge;
-  stands = λ start now first out us. w.stands start now us;
+  stands = w.stands;
   wrote = λ start first now us. Gained (state first) (state now) ((w.task start).text us);
   closed = λ start last first now us. w.closed start last us × Gained (state first) (state now) ((w.task start).text us);
   failed = λ start first now ended us fault. left_by fault (state first) (state now) ((w.task start).text us);

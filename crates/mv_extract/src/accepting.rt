@@ -12,15 +12,10 @@ use mv_bytestream::Found;
 use mv_engine::Ending;
 use mv_judging::Objection;
 use mv_rebuild::{NoPictures, NoViewer};
-use mv_walk::{Step, Totals, WalkError, Walker};
+use mv_walk::{Totals, WalkError, Walker};
 
-/// Walks one unit more, which was taken whole, as a visitor of the engine does that rebuilds no pictures.
-///
-/// # Errors
-///
-/// `Objects` where the unit breaks a rule, by the least one, or hasn't the output layer set that is asked for. `Fault` with
-/// `Memory` where the allocator refused memory.
-pub fn accept(walker: &mut Walker<NoPictures>, found: &Found<'_>) -> Result<Step, Ending<WorkFault>>
+// Walks one unit more. Says whether it is kept.
+pub fn accept(walker: &mut Walker<NoPictures>, found: &Found<'_>) -> Result<bool, Ending<WorkFault>>
     requires clean { unit_rule found.now.unit.now ≡ None }
     requires goes_on { walker.old.failed ≡ None }
     requires counted { MayGo walker.old }
@@ -29,16 +24,12 @@ pub fn accept(walker: &mut Walker<NoPictures>, found: &Found<'_>) -> Result<Step
     ensures asked { walker.new.asked ≡ walker.old.asked }
 {
     match walker.unit(&NoPictures, &mut NoViewer, found.byte, found.unit) {
-        Ok(step) => Ok(step),
+        Ok(step) => Ok(step.kept),
         Err(error) => Err(ending_of(error)),
     }
 }
 
-/// Walks the end, which the run itself places.
-///
-/// # Errors
-///
-/// `Objects` where no base picture was decoded. `Fault` with `Memory` where the allocator refused memory.
+// Walks the end, which the run itself places.
 pub fn close(walker: &mut Walker<NoPictures>) -> Result<Totals, Ending<WorkFault>>
     requires goes_on { walker.old.failed ≡ None }
     requires counted { MayGo walker.old }

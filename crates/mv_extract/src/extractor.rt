@@ -37,11 +37,11 @@ impl<K: Sink> Visitor for Extractor<K> {
         out: &mut K,
     ) -> Result<(), Ending<WorkFault>> {
         let _ = number;
-        let step = match accept(&mut self.walker, found) {
-            Ok(step) => step,
+        let kept = match accept(&mut self.walker, found) {
+            Ok(kept) => kept,
             Err(ending) => return Err(ending),
         };
-        if !step.kept {
+        if !kept {
             return Ok(());
         }
         match frame(out, found.unit) {

@@ -10,7 +10,6 @@ mod keeping;
 pub mod laws;
 mod no_sink;
 
-pub use accepting::{accept, close};
 pub use error::{ExtractError, WorkFault};
 pub use extracting::{check, extract};
 pub use keeping::keeps;

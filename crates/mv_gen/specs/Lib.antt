@@ -5,4 +5,3 @@ pub mod Headers
 pub mod ParameterSets
 pub mod Segments
 pub mod Units
-pub mod Writing

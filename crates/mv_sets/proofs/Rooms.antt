@@ -1,6 +1,6 @@
 -- What a store is made of, at its start and behind a changed video parameter set.
 use Rattle.std.proofs.Common.{◌≡◌, ℕ, ◌+◌, ◌*◌, ◌<◌, true, List, [], ◌∷◌, length, map, Option, None, Some, refl, ap, sym, ◌∙◌, subst}
-use Rattle.std.specs.Prelude.{All, IfSome, option_map}
+use Rattle.std.specs.Prelude.{All, IfSome}
 use Rattle.std.proofs.lemmas.List.{length-map, length-replicate, length-set}
 use Rattle.std.proofs.lemmas.List.Elements.{All-cons, All-nil, All-replicate, All-set}
 use Rattle.mv_pictures.specs.Facts.{Fact, turned}
@@ -10,8 +10,8 @@ use Rattle.mv_sets.specs.Numbered.{Numbered, TableValue}
 use Rattle.mv_sets.specs.Resolved.{with_pps, with_sps}
 use Rattle.mv_sets.specs.Store.{CarriesPps, CarriesSps, Stands}
 use Rattle.mv_sets.specs.StoreValue.{HasRoom, IsStore, StoreValue}
-use Rattle.mv_sets.specs.Tables.{emptied, found, latest, no_sets, with_set}
-use Rattle.mv_sets.proofs.TableLaws.{found-put, latest-holds}
+use Rattle.mv_sets.specs.Tables.{emptied, latest, no_sets, with_set}
+use Rattle.mv_sets.proofs.TableLaws.{latest-holds}
 use Rattle.mv_sets.proofs.StoreLaws.{stands-emptied, stands-new, stands-pps, stands-sps}
 
 abbrev Fits : Option (Numbered SpsSetValue) → Type 0
@@ -67,14 +67,6 @@ put-is s h layer id kept set e fits t put =
       pps_room = h.pps_room;
       formats = All-set Fits s.sps.entries (layer * s.sps.ids + id) entry (subst (λ k. SpsFormatFits k.value.0) (sym e) fits) h.formats;
     })
-
--- the set of its layer and id is the one that was put
-pub kept-put : {A : Type 0} (ids : ℕ) (t : TableValue A) → HasRoom ids t → (layer id : ℕ) → layer < 64 → id < ids → (n : ℕ) → n ≡ id → (kept set : A) → kept ≡ set → (new : TableValue A) → new ≡ with_set t layer n kept →
-    option_map (λ m. m.set) (found new id layer) ≡ Some set
-kept-put {A} ids t h layer id few within n same kept set e new put =
-    let is : new ≡ with_set t layer id set = put ∙ ap (λ i. with_set t layer i kept) same ∙ ap (with_set t layer id) e in
-    ap (λ (u : TableValue A). option_map (λ m. m.set) (found u id layer)) is
-    ∙ ap (option_map (λ (m : Numbered A). m.set)) (found-put t layer id set few (within-of ids t h id within) (room-of ids t h))
 
 module _ (s : StoreValue) (is : IsStore s) (past : List Fact) (f : Fact) (stands : Stands s past) where
   pub sps-put : (set : SpsSetValue) → set.layer < 64 → set.value.0.opening.sps_seq_parameter_set_id < 16 → CarriesSps f set.layer set.payload set.value.0 →

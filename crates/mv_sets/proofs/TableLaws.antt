@@ -71,13 +71,6 @@ module _ {A : Type 0} (t : TableValue A) (l i : ℕ) (set : A) (few : l < 64) (w
           sym (cond-false same (Some n) None (false_from_ne_true same
           (λ h. both_ways (nat_lt id t.ids) e (lt-ltb id t.ids (let at : i ≡ id = eqb-true i id (and_parts (nat_eq layer l) (nat_eq i id) h).1 in omega (arith, at, within))))))
 
--- the set that was put is found
-pub found-put : {A : Type 0} (t : TableValue A) (l i : ℕ) (set : A) → l < 64 → i < t.ids → length t.entries ≡ 64 * t.ids → found (with_set t l i set) i l ≡ Some (record { number = t.count + 1; set = set })
-found-put {A} t l i set few within room =
-    let n : Option (Numbered A) = Some (record { number = t.count + 1; set = set }) in
-    found-with t l i set few within room i l
-    ∙ ap (λ b. cond (b && nat_eq i i) n (found t i l)) (eq-eqb l l refl) ∙ ap (λ b. cond b n (found t i l)) (eq-eqb i i refl)
-
 -- ---- No sets
 
 empty-at : {A : Type 0} (m slot : ℕ) → entry_at {A = A} (replicate m None) slot ≡ None

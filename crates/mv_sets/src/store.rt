@@ -1,6 +1,6 @@
 //! The parameter sets that were received, and those that serve a slice segment.
 
-ghost use Rattle.std.specs.Prelude.{◌≡◌, ◌<◌, ◌+◌, ◌^◌, ◌∷◌, [], true, List, Ok, Some, IfOk, IfSome, OnOk, IsErr, option_map};
+ghost use Rattle.std.specs.Prelude.{◌≡◌, ◌<◌, ◌+◌, ◌^◌, ◌∷◌, [], true, List, Ok, IfOk, IfSome, OnOk, IsErr, option_map};
 ghost use Rattle.mv_layers.specs.LayerInfos.{closure_of};
 ghost use Rattle.mv_vps.specs.Vps.{ValidVps};
 ghost use Rattle.mv_pictures.specs.Contexts.{format_of};
@@ -70,7 +70,6 @@ impl SetStore {
         requires format { SpsFormatFits sps.0 }
         requires count { self.old.sps.count + 1 < 2 ^ 64 }
         ensures added { (past : List Fact) (f : Fact) → Stands self.old past → CarriesSps f layer payload.now sps.0 → OnOk result (Stands self.new (f ∷ past)) }
-        ensures kept { OnOk result (option_map (λ n. n.set) (found self.new.sps sps.0.opening.sps_seq_parameter_set_id layer) ≡ Some (record { layer = layer; payload = payload.now; value = sps })) }
         ensures counts { OnOk result ((self.new.sps.count ≡ self.old.sps.count + 1) × (self.new.pps ≡ self.old.pps)) }
         ensures refused { IsErr result → self.new ≡ self.old }
     {
@@ -88,7 +87,6 @@ impl SetStore {
         requires id { pps.0.opening.pps_pic_parameter_set_id < 64 }
         requires count { self.old.pps.count + 1 < 2 ^ 64 }
         ensures added { (past : List Fact) (f : Fact) → Stands self.old past → CarriesPps f layer payload.now pps.0 → OnOk result (Stands self.new (f ∷ past)) }
-        ensures kept { OnOk result (option_map (λ n. n.set) (found self.new.pps pps.0.opening.pps_pic_parameter_set_id layer) ≡ Some (record { layer = layer; payload = payload.now; value = pps })) }
         ensures counts { OnOk result ((self.new.pps.count ≡ self.old.pps.count + 1) × (self.new.sps ≡ self.old.sps)) }
         ensures refused { IsErr result → self.new ≡ self.old }
     {

@@ -60,7 +60,7 @@ few-kept None (Some d) e short h = absurd (let w : Some d.sizes ≡ None = e in 
 few-kept (Some d) None e short h = tt
 few-kept (Some d) (Some n) e short h = let same : n.sizes ≡ d.sizes = (let w : Some n.sizes ≡ Some d.sizes = e in cc) in (subst (λ s. total s ≤ 255) (sym same) h.0, short h.1)
 
-pub decoded-kept : (old new : Option DecodedValue) → option_map (λ (d : DecodedValue). d.sizes) new ≡ option_map (λ (d : DecodedValue). d.sizes) old → is_some new ≡ is_some old
+decoded-kept : (old new : Option DecodedValue) → option_map (λ (d : DecodedValue). d.sizes) new ≡ option_map (λ (d : DecodedValue). d.sizes) old → is_some new ≡ is_some old
 decoded-kept None None e = refl
 decoded-kept None (Some d) e = absurd (let w : Some d.sizes ≡ None = e in cc)
 decoded-kept (Some d) None e = absurd (let w : None ≡ Some d.sizes = e in cc)

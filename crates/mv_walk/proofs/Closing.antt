@@ -120,7 +120,7 @@ closes-but_queue old mid new closes same past h = closed-but_queue mid new past 
 -- ---- It is held
 
 -- a place within a list has one value, whatever is told beside it
-pub within-list : {A : Type 0} (xs : List A) (i : ℕ) (d e : A) → i < length xs → get_or xs i d ≡ get_or xs i e
+within-list : {A : Type 0} (xs : List A) (i : ℕ) (d e : A) → i < length xs → get_or xs i d ≡ get_or xs i e
 within-list xs i d e lt = sym (get_or-set_same xs i (get_or xs i d) e lt) ∙ ap (λ ys. get_or ys i e) (set-get_or xs i d)
 
 pub finished : {R W P : Type 0} (old mid : Decoder R W P) (m : Making R W P) (pic : P) (count : ℤ) (found after : LayerValue P) → IsButQueue old mid → count ≡ m.shown.count →

@@ -1,5 +1,5 @@
 -- A stream without units.
-use Rattle.std.proofs.Common.{◌≡◌, ◌<◌, List, [], length, reverse, replicate, Option, None, Some, refl, ap, sym, subst, ◌∙◌}
+use Rattle.std.proofs.Common.{◌≡◌, ◌<◌, List, [], length, reverse, replicate, None, refl, ap, sym, subst, ◌∙◌}
 use Rattle.std.proofs.lemmas.List.{get_or-replicate, length-replicate}
 use Rattle.std.proofs.lemmas.List.Elements.{All-nil}
 use Rattle.mv_history.specs.History.{run}
@@ -23,7 +23,6 @@ use Rattle.mv_walk_laws.proofs.Sound.{sound-first}
 use Rattle.mv_walk_laws.specs.Streams.{IsLatestChange, current}
 use Rattle.mv_walk.specs.Courses.{Stood}
 use Rattle.mv_walk.specs.Decoders.{DecoderStands, IsClosed, base_count, layer_at}
-use Rattle.mv_walk.specs.Telling.{AreBelow, KeepsLatest, KeepsReferences, Tells}
 use Rattle.mv_walk.specs.declared.course.Course.{Course}
 use Rattle.mv_walk.specs.declared.decoder.Decoder.{Decoder}
 use Rattle.mv_walk.proofs.Joining.{closed-stands}
@@ -51,7 +50,7 @@ decoder-empty {R} {W} {P} d stands kept order base picture making pictures seque
   none_made = making;
 }
 
-pub no-history : history_of [] ≡ []
+no-history : history_of [] ≡ []
 unfolding history_of history facts_of facts all_placed items run
 no-history = refl
 
@@ -73,11 +72,4 @@ course-empty c vps changed sets units decoder = record {
   sets_are = subst (store.Stands c.sets) (sym no-facts) sets;
   units_are = subst (tracker.Stands c.units) (sym no-items) units;
   decoder_is = subst (λ past. DecoderStands c.decoder c.vps past (current [])) (sym no-history) (closed-stands c.decoder c.vps [] (current []) decoder (All-nil (λ (e : Judged). au e.fact < current [])));
-}
-
-pub tells-empty : {R W P : Type 0} (c : Course R W P) → IsClosed c.decoder [] → Tells c []
-tells-empty c closed = record {
-  latest = subst (KeepsLatest c) (sym no-facts) tt;
-  references = subst (KeepsReferences c.decoder.making) (sym no-history) (λ p wrong. absurd (let e : Path (Option Judged) None (Some p) = wrong in cc));
-  below = subst AreBelow (sym closed.none_open) tt;
 }

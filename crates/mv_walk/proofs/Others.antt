@@ -61,7 +61,7 @@ pictures-over d past p making none k = record {
 
 -- ---- The open picture
 
-pub no-picture-in : (p : Fact) → is_slice p ≡ false → is_picture p ≡ false
+no-picture-in : (p : Fact) → is_slice p ≡ false → is_picture p ≡ false
 no-picture-in p none = ap (λ b. b && is_first_segment p.placed.item.opening) none
 
 pub opens-over : (vps : Option VpsInForceValue) (picture : Option OpenValue) (past : List Judged) (p : Fact) (unit : ℕ) → is_slice p ≡ false →

@@ -8,22 +8,21 @@ use Rattle.mv_walk_sets.specs.declared.vps.NewVps.{NewVps}
 use Rattle.mv_walk.specs.Taking.{IsNewVps, PutsVps}
 use Rattle.mv_walk.specs.declared.course.Course.{Course}
 use Rattle.mv_walk.specs.declared.decoder.Decoder.{Decoder}
-use Rattle.mv_walk.specs.declared.last.Carried.{Carried}
 
-new-is : {R W P : Type 0} (v : VpsInForceValue) (l : Carried) (old new : Course R W P) → new ≡ record old { vps = Some v; last = l } → IsNewVps v old new
-new-is {R} {W} {P} v l old new e = record { vps_is = ap (λ (c : Course R W P). c.vps) e; units_are = ap (λ (c : Course R W P). c.units) e; decoder_is = ap (λ (c : Course R W P). c.decoder) e }
+new-is : {R W P : Type 0} (v : VpsInForceValue) (old new : Course R W P) → new ≡ record old { vps = Some v; last = new.last } → IsNewVps v old new
+new-is {R} {W} {P} v old new e = record { vps_is = ap (λ (c : Course R W P). c.vps) e; units_are = ap (λ (c : Course R W P). c.units) e; decoder_is = ap (λ (c : Course R W P). c.decoder) e }
 
 pub again-put : {R W P : Type 0} (n : NewVps) (au : ℕ) (old new : Course R W P) → n ≡ NewVps.Repeated → new ≡ record old { last = new.last } → PutsVps n au old new
 again-put n au old new is e = subst (λ (m : NewVps). PutsVps m au old new) (sym is) e
 
-pub first-put : {R W P : Type 0} (n : NewVps) (v : VpsInForceValue) (au : ℕ) (l : Carried) (old new : Course R W P) → n ≡ NewVps.First v → new ≡ record old { vps = Some v; last = l } → PutsVps n au old new
-first-put {R} {W} {P} n v au l old new is e =
-    subst (λ (m : NewVps). PutsVps m au old new) (sym is) (new-is v l old new e, ap (λ (c : Course R W P). c.sets) e, ap (λ (c : Course R W P). c.changed) e)
+pub first-put : {R W P : Type 0} (n : NewVps) (v : VpsInForceValue) (au : ℕ) (old new : Course R W P) → n ≡ NewVps.First v → new ≡ record old { vps = Some v; last = new.last } → PutsVps n au old new
+first-put {R} {W} {P} n v au old new is e =
+    subst (λ (m : NewVps). PutsVps m au old new) (sym is) (new-is v old new e, ap (λ (c : Course R W P). c.sets) e, ap (λ (c : Course R W P). c.changed) e)
 
-pub changed-put : {R W P : Type 0} (n : NewVps) (v : VpsInForceValue) (au : ℕ) (l : Carried) (old mid new : Course R W P) → n ≡ NewVps.Changed v → mid ≡ record old { sets = mid.sets; changed = Some au } → new ≡ record mid { vps = Some v; last = l } →
+pub changed-put : {R W P : Type 0} (n : NewVps) (v : VpsInForceValue) (au : ℕ) (old mid new : Course R W P) → n ≡ NewVps.Changed v → mid ≡ record old { sets = mid.sets; changed = Some au } → new ≡ record mid { vps = Some v; last = new.last } →
     ((past : List Fact) (f : Fact) → turned f ≡ true → store.Stands mid.sets (f ∷ past)) → PutsVps n au old new
-changed-put {R} {W} {P} n v au l old mid new is before e stands =
-    let whole : IsNewVps v mid new = new-is v l mid new e in
+changed-put {R} {W} {P} n v au old mid new is before e stands =
+    let whole : IsNewVps v mid new = new-is v mid new e in
     subst (λ (m : NewVps). PutsVps m au old new) (sym is) (
       record { vps_is = whole.vps_is; units_are = whole.units_are ∙ ap (λ (c : Course R W P). c.units) before; decoder_is = whole.decoder_is ∙ ap (λ (c : Course R W P). c.decoder) before },
       (λ past f t. subst (λ (s : StoreValue). store.Stands s (f ∷ past)) (sym (ap (λ (c : Course R W P). c.sets) e)) (stands past f t)),

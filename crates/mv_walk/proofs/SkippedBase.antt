@@ -33,7 +33,7 @@ told-ok (Ok c) = refl
 told-ok (Err rule) = refl
 
 -- a place within a list has one value, whatever is told beside it
-pub at-list : {A : Type 0} (xs : List A) (i : ℕ) (d e : A) → i < length xs → get_or xs i d ≡ get_or xs i e
+at-list : {A : Type 0} (xs : List A) (i : ℕ) (d e : A) → i < length xs → get_or xs i d ≡ get_or xs i e
 at-list xs i d e lt = sym (get_or-set_same xs i (get_or xs i d) e lt) ∙ ap (λ ys. get_or ys i e) (set-get_or xs i d)
 
 pub base-answered : {R W P : Type 0} (old : Decoder R W P) (vps : VpsInForceValue) (s : FirstSegment) (past : List Judged) (p : Fact) (q : PocAsk) (found after : LayerValue P) (answer : Result ℤ Rule) (c : Option ℤ) →

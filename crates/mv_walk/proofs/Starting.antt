@@ -37,7 +37,7 @@ pub forgotten : {P Z : Type 0} (kept : Vec (LayerValue P) Z) (before after : Lis
 forgotten {P} {Z} kept before after is same len =
     with_items_is kept after (ap length is ∙ length-replicate (length before) (no_pictures {P = P}) ∙ len) ∙ is ∙ ap (λ (xs : List (LayerValue P)). replicate (length xs) no_pictures) same
 
-pub begun-by : (vps : VpsInForceValue) (s : FirstSegment) (past : List Judged) (p : Fact) → IsFirst vps s past p → is_sequence_start (look past p) p ≡ true → IsBegun vps.value s.served.active.sps.value.0 past p
+begun-by : (vps : VpsInForceValue) (s : FirstSegment) (past : List Judged) (p : Fact) → IsFirst vps s past p → is_sequence_start (look past p) p ≡ true → IsBegun vps.value s.served.active.sps.value.0 past p
 begun-by vps s past p f starts = record { starts = starts; vps_is = ap whole f.vps_is; sps_is = ap (λ (x : Sets). option_and_then value_of x.sps) f.sets_are }
 
 pub sequence-ready : {R W P : Type 0} (old flushed new : Decoder R W P) (vps : VpsInForceValue) (s : FirstSegment) (v : WholeVps) (sps : SpsValue) → IsButQueue old flushed → v ≡ vps.value →

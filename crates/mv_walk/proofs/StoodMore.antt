@@ -93,7 +93,7 @@ told-none us u none =
     ap (λ b. cond (b && is_first_segment (fact_behind us u).placed.item.opening) (Some (state_of (look (history_of us) (fact_behind us u)) (fact_behind us u), within_range (count (look (history_of us) (fact_behind us u)) (fact_behind us u)))) None)
     (slice-none us u none)
 
-pub picture-none : (us : List (List ℕ)) (u : List ℕ) → is_slice (item_behind us u) ≡ false → judgements.is_picture (fact_behind us u) ≡ false
+picture-none : (us : List (List ℕ)) (u : List ℕ) → is_slice (item_behind us u) ≡ false → judgements.is_picture (fact_behind us u) ≡ false
 picture-none us u none = ap (λ b. b && is_first_segment (fact_behind us u).placed.item.opening) (slice-none us u none)
 
 -- one that ends nothing changes no state of a layer

@@ -5,14 +5,7 @@ pub mod Firsts
 pub mod Laters
 pub mod Courses
 pub mod Going
-pub mod Carrying
-pub mod Referring
-pub mod Telling
 pub mod Standing
 pub mod Taking
 pub mod Ending
 pub mod Stepping
-pub mod Begun
-pub mod Shown
-pub mod Seen
-pub mod Viewed

@@ -1,31 +1,19 @@
 //! What a walker is asked.
 #![tactic(auto)]
 
-ghost use Rattle.std.specs.Prelude.{ℕ, ◌≡◌, ◌+◌, ◌<◌, ◌^◌, [], Err, Some, None, List, length, IfErr, IfOk, if◌then◌else◌, ◌++◌, ◌∷◌, ◌≤◌, IsSome};
+ghost use Rattle.std.specs.Prelude.{ℕ, ◌≡◌, ◌+◌, ◌<◌, ◌^◌, [], Err, Some, None, List, length, IfErr, IfOk, if◌then◌else◌};
 ghost use Rattle.mv_io.specs.Faults.{Rose};
 ghost use Rattle.mv_units.specs.Rules.{unit_rule};
-ghost use Rattle.mv_walk.specs.Carrying.{Carries, IsTaken};
-ghost use Rattle.mv_walk.specs.Referring.{AreWithin, HasReferences, lists_told};
-ghost use Rattle.std.specs.Option.{IfSome, option_copied};
-ghost use Rattle.mv_commuting.specs.OneMore.{fact_behind};
-ghost use Rattle.mv_pictures.specs.Extract.{last_vps};
-ghost use Rattle.mv_pictures.specs.History.{history_of, judged};
-ghost use Rattle.mv_pictures.specs.Layers.{whole};
-ghost use Rattle.mv_vps.specs.Vps.{ValidVps};
 ghost use Rattle.mv_walk.specs.Standing.{MayGo, Stands};
 ghost use Rattle.mv_walk.specs.Walking.{Closes, Walks};
 ghost use Rattle.mv_walk.specs.declared.ending.WalkError.{WalkError};
-ghost use Rattle.mv_dpb.specs.declared.shown.Shown.{Shown};
-ghost use Rattle.mv_walk.specs.Seen.{Gains};
-ghost use Rattle.mv_walk.specs.Viewed.{ClosesValues, ShowsUnits, WalksValues, viewer_failed};
 
 use crate::course::Course;
 use crate::ending::{WalkError, error_of};
-use crate::last::{Carried, is_of_slice};
+use crate::last::Carried;
 use crate::step::{Last, Step, Totals};
 use crate::walker::Walker;
 use mv_rebuild::{Rebuild, Viewer};
-use mv_slice::SliceContext;
 use mv_vps::Vps;
 use std::alloc::{AllocError, Global};
 
@@ -35,7 +23,6 @@ impl<R: Rebuild> Walker<R> {
     /// `AllocError` where memory runs out.
     pub fn new(alloc: Global, ols: u32) -> Result<Walker<R>, AllocError>
         ensures stands { IfOk result (λ w. Stands w []) }
-        ensures shows { IfOk result (λ w. (rebuild : R) → ShowsUnits (R.meaning rebuild) w [] []) }
         ensures asked { IfOk result (λ w. w.asked ≡ ols) }
     {
         let course = Course::new(alloc, ols)?;
@@ -63,11 +50,6 @@ impl<R: Rebuild> Walker<R> {
         requires clean { unit_rule unit.now ≡ None }
         requires goes_on { MayGo self.old }
         ensures walks { (us : List (List ℕ)) → Stands self.old us → length us + 1 < 2 ^ 64 → Walks self.old.asked us byte unit.now (Stands self.new) result }
-        ensures values { (us : List (List ℕ)) (shown : List (Shown × R.Pic)) → Stands self.old us → length us + 1 < 2 ^ 64 → ShowsUnits (R.meaning rebuild.now) self.old us shown →
-            Gains V.viewing viewer.old viewer.new (viewer_failed result) shown (WalksValues (R.meaning rebuild.now) self.old.asked us unit.now self.new result) }
-        ensures same { V.viewing.name viewer.new ≡ V.viewing.name viewer.old }
-        ensures never_falls { V.viewing.faults viewer.old ≤ V.viewing.faults viewer.new }
-        ensures shows_no_more { IsSome self.old.failed → viewer.new ≡ viewer.old }
         ensures asked { self.new.asked ≡ self.old.asked }
         ensures view { result ≡ Err WalkError.View → self.old.failed ≡ None → Rose (V.viewing.faults viewer.old) (V.viewing.faults viewer.new) }
         ensures fails { IfErr result (λ error. self.new.failed ≡ Some error) }
@@ -106,11 +88,6 @@ impl<R: Rebuild> Walker<R> {
     ) -> Result<Totals, WalkError>
         requires goes_on { MayGo self.old }
         ensures closes { (us : List (List ℕ)) → Stands self.old us → Closes self.old.asked us byte result }
-        ensures values { (us : List (List ℕ)) (shown : List (Shown × R.Pic)) → Stands self.old us → ShowsUnits (R.meaning rebuild.now) self.old us shown →
-            Gains V.viewing viewer.old viewer.new (viewer_failed result) shown (ClosesValues (R.meaning rebuild.now).picture self.old.asked us result) }
-        ensures same { V.viewing.name viewer.new ≡ V.viewing.name viewer.old }
-        ensures never_falls { V.viewing.faults viewer.old ≤ V.viewing.faults viewer.new }
-        ensures shows_no_more { IsSome self.old.failed → viewer.new ≡ viewer.old }
         ensures asked { self.new.asked ≡ self.old.asked }
         ensures view { result ≡ Err WalkError.View → self.old.failed ≡ None → Rose (V.viewing.faults viewer.old) (V.viewing.faults viewer.new) }
         ensures fails { IfErr result (λ error. self.new.failed ≡ Some error) }
@@ -134,32 +111,15 @@ impl<R: Rebuild> Walker<R> {
     }
 
     /// The video parameter set in force, if there is one.
-    pub fn vps(&self) -> Option<&Vps>
-        ensures in_force { (us : List (List ℕ)) → Stands self.now us → option_copied result ≡ whole (last_vps us) }
-        ensures valid { (us : List (List ℕ)) → Stands self.now us → IfSome (option_copied result) (λ v. ValidVps v) }
-    {
+    pub fn vps(&self) -> Option<&Vps> {
         match &self.course.vps {
             Some(vps) => Some(&vps.value),
             None => None,
         }
     }
 
-    /// What the headers of the segments of the access unit's latest picture take from the sets that serve it. `None` where it has no
-    /// picture.
-    pub fn context(&self) -> Option<SliceContext<'_>>
-        requires { (us : List (List ℕ)) × Stands self.now us }
-        ensures { (us : List (List ℕ)) (u : List ℕ) → Stands self.now (us ++ u ∷ []) → IsTaken (fact_behind us u) result }
-    {
-        match (&self.course.vps, &self.course.decoder.picture) {
-            (Some(vps), Some(picture)) => Some(picture.served.context(&vps.value, picture.head)),
-            _ => None,
-        }
-    }
-
     /// What the latest unit carries.
-    pub fn last(&self) -> Last<'_>
-        ensures { (us : List (List ℕ)) (u : List ℕ) → Stands self.now (us ++ u ∷ []) → Carries (fact_behind us u) result }
-    {
+    pub fn last(&self) -> Last<'_> {
         match &self.course.last {
             Carried::Nothing => Last::Nothing,
             Carried::Vps => match &self.course.vps {
@@ -184,15 +144,11 @@ impl<R: Rebuild> Walker<R> {
 
     /// Of the latest unit, where it is a slice segment of a decoded picture, the picture's references, each by its layer and its
     /// count, and the segment's reference picture lists.
-    pub fn lists(&self) -> (&[(u8, i32)], &[u8], &[u8])
-        ensures within { (us : List (List ℕ)) → Stands self.now us → AreWithin (length result.0.now) result.1.now × AreWithin (length result.0.now) result.2.now }
-        ensures some { (us : List (List ℕ)) (u : List ℕ) → Stands self.now (us ++ u ∷ []) → HasReferences (history_of us) (judged (history_of us) (fact_behind us u)) }
-        ensures told { (us : List (List ℕ)) (u : List ℕ) → Stands self.now (us ++ u ∷ []) → (result.0.now, (result.1.now, result.2.now)) ≡ lists_told (history_of us) (judged (history_of us) (fact_behind us u)) }
-    {
-        if is_of_slice(&self.course.last) {
-            self.course.decoder.lists()
-        } else {
-            (&[], &[], &[])
+    pub fn lists(&self) -> (&[(u8, i32)], &[u8], &[u8]) {
+        match &self.course.last {
+            Carried::First => self.course.decoder.lists(),
+            Carried::Later(_) => self.course.decoder.lists(),
+            _ => (&[], &[], &[]),
         }
     }
 }

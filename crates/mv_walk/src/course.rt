@@ -1,17 +1,12 @@
 //! The course of a stream: what is kept of it from unit to unit.
 #![tactic(auto)]
 
-ghost use Rattle.std.specs.Prelude.{ℕ, ◌≡◌, ◌+◌, ◌<◌, ◌^◌, [], None, List, length, IfOk, ◌++◌, ◌∷◌, OnOk};
+ghost use Rattle.std.specs.Prelude.{ℕ, ◌≡◌, ◌+◌, ◌<◌, ◌^◌, [], None, List, length, IfOk};
 ghost use Rattle.mv_units.specs.Rules.{unit_rule};
 ghost use Rattle.mv_vps.specs.Vps.{ValidVps};
 ghost use Rattle.mv_walk.specs.Courses.{HasUnits, Stood};
 ghost use Rattle.mv_walk.specs.Decoders.{HasViewCause};
 ghost use Rattle.mv_walk.specs.Stepping.{Ends, Steps};
-ghost use Rattle.mv_walk.specs.Telling.{Tells};
-ghost use Rattle.mv_dpb.specs.declared.shown.Shown.{Shown};
-ghost use Rattle.mv_pictures.specs.History.{history_of};
-ghost use Rattle.mv_walk.specs.Shown.{HasValues};
-ghost use Rattle.mv_walk.specs.Seen.{EndsValues, Gains, StepsValues, is_view};
 
 use crate::decoder::Decoder;
 use crate::ending::Stop;
@@ -44,8 +39,6 @@ impl<R: Rebuild> Course<R> {
     /// The course of a stream without units, where an output layer set is asked for.
     pub(crate) fn new(alloc: Global, asked: u32) -> Result<Course<R>, AllocError>
         ensures stood { IfOk result (λ c. Stood c []) }
-        ensures tells { IfOk result (λ c. Tells c []) }
-        ensures values { IfOk result (λ c. (rebuild : R) → HasValues (R.meaning rebuild) c [] []) }
         ensures asked { IfOk result (λ c. c.decoder.asked ≡ asked) }
     {
         let sets = SetStore::new(alloc)?;
@@ -71,10 +64,6 @@ impl<R: Rebuild> Course<R> {
         requires clean { unit_rule unit.now ≡ None }
         requires has { HasUnits self.old }
         ensures steps { (us : List (List ℕ)) → Stood self.old us → length us + 1 < 2 ^ 64 → Steps self.old.decoder.asked us unit.now self.new result }
-        ensures tells { (us : List (List ℕ)) → Stood self.old us → Tells self.old us → length us + 1 < 2 ^ 64 → OnOk result (Tells self.new (us ++ unit.now ∷ [])) }
-        ensures values { (us : List (List ℕ)) (shown : List (Shown × R.Pic)) → Stood self.old us → length us + 1 < 2 ^ 64 → HasValues (R.meaning rebuild.now) self.old us shown →
-            Gains V.viewing viewer.old viewer.new (is_view result) shown (StepsValues (R.meaning rebuild.now) self.old.decoder.asked us unit.now self.new result) }
-        ensures same { V.viewing.name viewer.new ≡ V.viewing.name viewer.old }
         ensures asked { self.new.decoder.asked ≡ self.old.decoder.asked }
         ensures cause { HasViewCause (V.viewing.faults viewer.old) (V.viewing.faults viewer.new) result }
     {
@@ -106,9 +95,6 @@ impl<R: Rebuild> Course<R> {
     ) -> Result<Totals, Stop>
         requires stood { (us : List (List ℕ)) × Stood self.old us }
         ensures ends { (us : List (List ℕ)) → Stood self.old us → Ends us units kept result }
-        ensures values { (us : List (List ℕ)) (shown : List (Shown × R.Pic)) → Stood self.old us → HasValues (R.meaning rebuild.now) self.old us shown →
-            Gains V.viewing viewer.old viewer.new (is_view result) shown (EndsValues (R.meaning rebuild.now).picture self.old.decoder.asked (history_of us) result) }
-        ensures same { V.viewing.name viewer.new ≡ V.viewing.name viewer.old }
         ensures cause { HasViewCause (V.viewing.faults viewer.old) (V.viewing.faults viewer.new) result }
     {
         let Some(vps) = &self.vps else {

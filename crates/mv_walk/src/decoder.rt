@@ -8,7 +8,6 @@ ghost use Rattle.mv_pictures.specs.Judged.{Judged};
 ghost use Rattle.mv_au.specs.States.{IsEndOf};
 ghost use Rattle.mv_walk_layer.specs.LayerValue.{no_pictures};
 ghost use Rattle.mv_walk.specs.Decoders.{IsClosed, Keeps};
-ghost use Rattle.mv_walk.specs.Telling.{lists_kept};
 
 use crate::making::Making;
 use mv_au::LayerStates;
@@ -64,8 +63,6 @@ impl<R: Rebuild> Decoder<R> {
     /// Nothing is kept of pictures.
     pub(crate) fn new(alloc: Global, asked: u32) -> Result<Decoder<R>, AllocError>
         ensures keeps { IfOk result (λ d. IsClosed d []) }
-        ensures layers { IfOk result (λ d. d.layers.items ≡ replicate 64 no_pictures) }
-        ensures queue { IfOk result (λ d. d.queue ≡ None) }
         ensures asked { IfOk result (λ d. d.asked ≡ asked) }
     {
         let layers = no_layers(alloc)?;
@@ -103,9 +100,7 @@ impl<R: Rebuild> Decoder<R> {
     }
 
     /// The references of the picture in the making, and the lists of its latest segment.
-    pub(crate) fn lists(&self) -> (&[(u8, i32)], &[u8], &[u8])
-        ensures { (result.0.now, (result.1.now, result.2.now)) ≡ lists_kept self.now.making self.now.picture }
-    {
+    pub(crate) fn lists(&self) -> (&[(u8, i32)], &[u8], &[u8]) {
         match (&self.making, &self.picture) {
             (Some(making), Some(picture)) => match &picture.decoded {
                 Some(decoded) => (

@@ -1,23 +1,15 @@
 //! How a picture is decoded or skipped.
 #![tactic(auto)]
 
-ghost use Rattle.std.specs.Prelude.{◌≡◌, ◌≤◌, ◌<◌, ◌^◌, false, List, Some, None, Err, length, nat_eq, if◌then◌else◌, ◌∷◌, OnOk, ℕ};
+ghost use Rattle.std.specs.Prelude.{◌≡◌, ◌≤◌, ◌<◌, ◌^◌, false, List, Some, None, Err, length, nat_eq, if◌then◌else◌};
 ghost use Rattle.mv_pictures.specs.Facts.{Fact};
 ghost use Rattle.mv_pictures.specs.Judged.{Judged};
 ghost use Rattle.mv_pictures.specs.Look.{look};
 ghost use Rattle.mv_pictures.specs.Starts.{is_decoded};
 ghost use Rattle.mv_walk_sets.specs.InForce.{IsRead};
-ghost use Rattle.mv_walk.specs.Decoders.{KeepsPictures, layer_at};
+ghost use Rattle.mv_walk.specs.Decoders.{KeepsPictures};
 ghost use Rattle.mv_walk.specs.Firsts.{CanBegin, Decodes, MayDecode, IsDecoded, IsFirst, IsReady, TakesPicture, base_in, place};
-ghost use Rattle.mv_walk.specs.Telling.{MakesReferences};
 ghost use Rattle.mv_walk.specs.declared.ending.Stop.{Stop as StopValue};
-ghost use Rattle.mv_pictures.specs.History.{judged};
-ghost use Rattle.mv_walk_values.specs.Orderly.{IsOrderly};
-ghost use Rattle.mv_dpb.specs.declared.shown.Shown.{Shown};
-ghost use Rattle.mv_walk_laws.specs.Rest.{picture_rule};
-ghost use Rattle.mv_walk_values.specs.Beginning.{ValuesReady};
-ghost use Rattle.mv_walk.specs.Shown.{ComesNext};
-ghost use Rattle.mv_walk.specs.Seen.{BeginsValues};
 
 use crate::decoder::Decoder;
 use crate::ending::Stop;
@@ -57,9 +49,6 @@ impl<R: Rebuild> Decoder<R> {
         requires read { IsRead vps.now }
         ensures takes { (past : List Judged) (p : Fact) → KeepsPictures self.old past None → IsFirst vps.now segment.now past p → is_decoded (look past p) p ≡ false → self.old.making ≡ None →
             TakesPicture past p self.new result }
-        ensures making { self.new.making ≡ self.old.making }
-        ensures rest { self.new ≡ record self.old { layers = self.new.layers; base_count = self.new.base_count } }
-        ensures held { (n : ℕ) → (layer_at self.new.layers.items n).buffer ≡ (layer_at self.old.layers.items n).buffer }
         ensures states { self.new.states ≡ self.old.states }
         ensures asked { self.new.asked ≡ self.old.asked }
         ensures breaks { result ≡ Err StopValue.View → ⊥ }
@@ -88,11 +77,6 @@ impl<R: Rebuild> Decoder<R> {
         requires read { IsRead vps.now }
         requires unit { length unit.now ≤ 2 ^ 24 }
         ensures decodes { (past : List Judged) (p : Fact) → IsReady self.old past p → IsFirst vps.now segment.now past p → IsDecoded start past p → Decodes past p self.new result }
-        ensures references { (past : List Judged) (p : Fact) → IsReady self.old past p → IsFirst vps.now segment.now past p → IsDecoded start past p → IsOrderly (judged past p ∷ past) →
-            OnOk result (MakesReferences self.new.making (judged past p)) }
-        ensures values { (past : List Judged) (p : Fact) (shown : List (Shown × R.Pic)) → IsReady self.old past p → IsFirst vps.now segment.now past p → IsDecoded start past p → ComesNext self.old.asked past p unit.now →
-            ValuesReady (R.meaning rebuild.now).picture self.old.asked past p self.old.layers.items self.old.queue shown → OnOk result (picture_rule past p ≡ None → BeginsValues (R.meaning rebuild.now) past p self.new shown) }
-        ensures queue { self.new.queue ≡ self.old.queue }
         ensures states { self.new.states ≡ self.old.states }
         ensures asked { self.new.asked ≡ self.old.asked }
         ensures breaks { result ≡ Err StopValue.View → ⊥ }

@@ -1,9 +1,9 @@
 //! How the first segment of a picture is taken.
 #![tactic(auto)]
 
-ghost use Rattle.std.specs.Prelude.{◌≡◌, ◌≤◌, ◌<◌, ◌^◌, true, false, List, Some, None, Err, OnOk, length, ◌∷◌, ℕ};
+ghost use Rattle.std.specs.Prelude.{◌≡◌, ◌≤◌, ◌<◌, ◌^◌, true, false, List, Some, None, Err, OnOk, length};
 ghost use Rattle.mv_pictures.specs.Facts.{Fact};
-ghost use Rattle.mv_pictures.specs.Judged.{Judged, au, vps_at};
+ghost use Rattle.mv_pictures.specs.Judged.{Judged};
 ghost use Rattle.mv_pictures.specs.Look.{look};
 ghost use Rattle.mv_pictures.specs.Starts.{is_sequence_start, is_start};
 ghost use Rattle.mv_au.specs.States.{state_of};
@@ -11,15 +11,6 @@ ghost use Rattle.mv_au.specs.declared.states.PicState.{PicState as PicStateValue
 ghost use Rattle.mv_walk_sets.specs.InForce.{IsRead};
 ghost use Rattle.mv_walk.specs.Decoders.{BreaksNothing, HasViewCause, Keeps, KeepsPictures};
 ghost use Rattle.mv_walk.specs.Firsts.{CanBegin, MayBegin, MayTake, IsFirst, IsReady, TakesFirst, TakesPicture, TakesState, unchanged};
-ghost use Rattle.mv_walk.specs.Telling.{KeepsReferences, MakesReferences};
-ghost use Rattle.mv_pictures.specs.History.{judged};
-ghost use Rattle.mv_walk_values.specs.Orderly.{IsOrderly};
-ghost use Rattle.mv_dpb.specs.declared.shown.Shown.{Shown};
-ghost use Rattle.mv_pictures.specs.Layers.{sets_at};
-ghost use Rattle.mv_rebuild.specs.Parts.{Part};
-ghost use Rattle.mv_walk_values.specs.Showing.{ShowsValues};
-ghost use Rattle.mv_walk.specs.Shown.{AreValues, ComesNext, IsNextUnit};
-ghost use Rattle.mv_walk.specs.Seen.{Empties, Gains, TakesPictureValues, TakesValues, is_view};
 
 use crate::decoder::{Decoder, forget_all};
 use crate::ending::Stop;
@@ -47,10 +38,6 @@ impl<R: Rebuild> Decoder<R> {
         requires read { IsRead vps.now }
         requires unit { length unit.now ≤ 2 ^ 24 }
         ensures takes { (past : List Judged) (p : Fact) → Keeps self.old past self.old.making → IsFirst vps.now segment past p → TakesFirst vps.now past p self.new result }
-        ensures references { (past : List Judged) (p : Fact) → Keeps self.old past self.old.making → IsFirst vps.now segment past p → IsOrderly (judged past p ∷ past) → OnOk result (KeepsReferences self.new.making (judged past p ∷ past)) }
-        ensures values { (past : List Judged) (p : Fact) (now : ℕ) (shown : List (Shown × R.Pic)) → Keeps self.old past self.old.making → IsFirst vps.now segment past p → ComesNext self.old.asked past p unit.now → IsNextUnit begins now (au p) past →
-            AreValues (R.meaning rebuild.now) past now now self.old self.old.making shown → Gains V.viewing viewer.old viewer.new (is_view result) shown (TakesValues (R.meaning rebuild.now) self.old.asked past p self.new result) }
-        ensures same { V.viewing.name viewer.new ≡ V.viewing.name viewer.old }
         ensures asked { self.new.asked ≡ self.old.asked }
         ensures cause { HasViewCause (V.viewing.faults viewer.old) (V.viewing.faults viewer.new) result }
     {
@@ -118,11 +105,6 @@ impl<R: Rebuild> Decoder<R> {
         requires unit { length unit.now ≤ 2 ^ 24 }
         ensures takes { (past : List Judged) (p : Fact) → KeepsPictures self.old past None → IsFirst vps.now segment.now past p → state ≡ state_of (look past p) p → self.old.making ≡ None →
             TakesPicture past p self.new result }
-        ensures references { (past : List Judged) (p : Fact) → KeepsPictures self.old past None → IsFirst vps.now segment.now past p → state ≡ state_of (look past p) p → self.old.making ≡ None →
-            IsOrderly (judged past p ∷ past) → OnOk result (MakesReferences self.new.making (judged past p)) }
-        ensures values { (past : List Judged) (p : Fact) (shown : List (Shown × R.Pic)) → KeepsPictures self.old past None → IsFirst vps.now segment.now past p → state ≡ state_of (look past p) p → self.old.making ≡ None → ComesNext self.old.asked past p unit.now →
-            AreValues (R.meaning rebuild.now) past (au p) (au p) self.old None shown → Gains V.viewing viewer.old viewer.new (is_view result) shown (TakesPictureValues (R.meaning rebuild.now) self.old.asked past p self.new result) }
-        ensures same { V.viewing.name viewer.new ≡ V.viewing.name viewer.old }
         ensures states { self.new.states ≡ self.old.states }
         ensures asked { self.new.asked ≡ self.old.asked }
         ensures cause { HasViewCause (V.viewing.faults viewer.old) (V.viewing.faults viewer.new) result }
@@ -151,11 +133,6 @@ impl<R: Rebuild> Decoder<R> {
         requires read { IsRead vps.now }
         requires unit { length unit.now ≤ 2 ^ 24 }
         ensures takes { (past : List Judged) (p : Fact) → KeepsPictures self.old past None → IsFirst vps.now segment.now past p → is_start (look past p) p ≡ true → TakesPicture past p self.new result }
-        ensures references { (past : List Judged) (p : Fact) → KeepsPictures self.old past None → IsFirst vps.now segment.now past p → is_start (look past p) p ≡ true → IsOrderly (judged past p ∷ past) →
-            OnOk result (MakesReferences self.new.making (judged past p)) }
-        ensures values { (past : List Judged) (p : Fact) (shown : List (Shown × R.Pic)) → KeepsPictures self.old past None → IsFirst vps.now segment.now past p → is_start (look past p) p ≡ true → ComesNext self.old.asked past p unit.now →
-            AreValues (R.meaning rebuild.now) past (au p) (au p) self.old None shown → Gains V.viewing viewer.old viewer.new (is_view result) shown (TakesPictureValues (R.meaning rebuild.now) self.old.asked past p self.new result) }
-        ensures same { V.viewing.name viewer.new ≡ V.viewing.name viewer.old }
         ensures states { self.new.states ≡ self.old.states }
         ensures asked { self.new.asked ≡ self.old.asked }
         ensures cause { HasViewCause (V.viewing.faults viewer.old) (V.viewing.faults viewer.new) result }
@@ -180,9 +157,6 @@ impl<R: Rebuild> Decoder<R> {
         requires read { IsRead vps.now }
         ensures ready { (past : List Judged) (p : Fact) → KeepsPictures self.old past None → IsFirst vps.now segment.now past p → is_sequence_start (look past p) p ≡ true →
             OnOk result (IsReady self.new past p) }
-        ensures values { (rebuild : List (Part R.Pic) → R.Pic) (past : List Judged) (p : Fact) (shown : List (Shown × R.Pic)) → KeepsPictures self.old past None → IsFirst vps.now segment.now past p → is_sequence_start (look past p) p ≡ true →
-            self.old.asked < length (sets_at (vps_at p)) → ShowsValues rebuild self.old.asked past false self.old.queue shown → Gains V.viewing viewer.old viewer.new (is_view result) shown (Empties rebuild self.old.asked past p self.new result) }
-        ensures same { V.viewing.name viewer.new ≡ V.viewing.name viewer.old }
         ensures states { self.new.states ≡ self.old.states }
         ensures picture { self.new.picture ≡ self.old.picture }
         ensures making { self.new.making ≡ self.old.making }

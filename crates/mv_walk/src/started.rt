@@ -1,16 +1,12 @@
 //! How a decoded picture is put in the making.
 #![tactic(auto)]
 
-ghost use Rattle.std.specs.Prelude.{◌≡◌, ◌≤◌, ◌<◌, ◌+◌, ◌-◌, ◌^◌, ◌&&◌, true, All, AllPairs, Some, Err, IfOk, IfErr, OnOk, is_some, length, slice_set};
+ghost use Rattle.std.specs.Prelude.{◌≡◌, ◌≤◌, ◌<◌, ◌+◌, ◌^◌, true, All, AllPairs, Some, Err, IfOk, IfErr, OnOk, is_some, length, slice_set};
 ghost use Rattle.std.specs.Option.{IfSome};
 ghost use Rattle.mv_walk_layer.specs.LayerValue.{with_decoded};
-ghost use Rattle.mv_walk_order.specs.OrderSteps.{puts_out};
 ghost use Rattle.mv_walk_sets.specs.InForce.{IsRead};
-ghost use Rattle.mv_walk_values.specs.Beginning.{begun_parts};
-ghost use Rattle.mv_walk.specs.Begun.{IsMadeOf, referring, segment_by, start_by};
 ghost use Rattle.mv_walk.specs.Decoders.{layer_at, made_in};
 ghost use Rattle.mv_walk.specs.Firsts.{CanBegin, latest_by};
-ghost use Rattle.mv_walk.specs.Telling.{begun_pairs};
 ghost use Rattle.mv_walk.specs.declared.ending.Stop.{Stop as StopValue};
 
 use crate::decoder::Decoder;
@@ -44,9 +40,6 @@ impl<R: Rebuild> Decoder<R> {
         ensures told { IfOk result (λ told. told ≡ (Some decided.count, Some (record { sizes = decided.sizes; lists = decided.lists }))) }
         ensures making { OnOk result (IfSome self.new.making (λ m. made_in segment.now.head.layer m ≡ Some (decided.count, segment.now.au))) }
         ensures made { OnOk result (is_some self.new.making ≡ true) }
-        ensures references { OnOk result (IfSome self.new.making (λ m. m.references.items ≡ begun_pairs self.old.layers.items segment.now.head.layer decided.resolved decided.inter_layer.zero decided.inter_layer.one)) }
-        ensures values { OnOk result (IfSome self.new.making (λ m. IsMadeOf (R.meaning rebuild.now) vps.now segment.now decided.count (self.old.sequences - 1) (decided.put_out && puts_out self.old.order.sets self.old.asked segment.now.head.layer)
-            (begun_parts self.old.layers.items segment.now.head.layer (referring decided) (start_by vps.now segment.now decided.count) (segment_by unit.now decided)) m)) }
         ensures pictures { OnOk result (self.old.pictures + 1 < 2 ^ 64 → self.new.pictures ≡ self.old.pictures + 1) }
         ensures layers { OnOk result (self.new.layers.items
             ≡ slice_set self.old.layers.items segment.now.head.layer (with_decoded start decided.resolved.keep.items (latest_by segment.now) (layer_at self.old.layers.items segment.now.head.layer))) }

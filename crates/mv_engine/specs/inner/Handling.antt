@@ -36,10 +36,10 @@ pub record Idle (f : Format) (j : Judge) (Holds : OfBytes) (Stands Wrote : OfUni
 
 -- both in the words of a visitor's meaning
 abbrev pub HandledBy : {V O F : Type 0} → Format → Meaning V O F → V → O → OfBytes → V → O → Reading → ℕ → List ℕ → Type 0
-HandledBy f m start first Holds now out reading number s = Handled f (m.judge start) Holds (m.stands start now first out) (m.wrote start first out) reading number s
+HandledBy f m start first Holds now out reading number s = Handled f (m.judge start) Holds (m.stands start now) (m.wrote start first out) reading number s
 
 abbrev pub IdleBy : {V O F : Type 0} → Format → Meaning V O F → V → O → OfBytes → V → O → Reading → ℕ → List ℕ → Type 0
-IdleBy f m start first Holds now out reading number s = Idle f (m.judge start) Holds (m.stands start now first out) (m.wrote start first out) reading number s
+IdleBy f m start first Holds now out reading number s = Idle f (m.judge start) Holds (m.stands start now) (m.wrote start first out) reading number s
 
 -- a unit may be handed out: the reader stands for some bytes, fewer than 2^64
 pub record CanHandle {V O F : Type 0} (f : Format) (m : Meaning V O F) (Holds : OfBytes) (now : V) (out : O) (reading : Reading) (number : ℕ) : Type 0 where
@@ -63,7 +63,7 @@ pub record CanFeed {V O F : Type 0} (f : Format) (m : Meaning V O F) (Holds : Of
 -- each answer for one unit behind others, whose number is given
 abbrev pub VisitsOne : {V O F : Type 0} → Meaning V O F → V → O → V → O → ℕ → List NalUnit → NalUnit → Result ⊤ (DriveError F) → Type 0
 VisitsOne m start first new out number us u (Ok _) =
-    ((m.judge start).late us u ≡ None) × m.stands start new first out (us ++ u ∷ []) × m.wrote start first out (us ++ u ∷ [])
+    ((m.judge start).late us u ≡ None) × m.stands start new (us ++ u ∷ []) × m.wrote start first out (us ++ u ∷ [])
 VisitsOne m start first new out number us u (Err (Stopped stop)) =
     (stop.unit ≡ number) × (stop.byte ≡ u.place) × ((m.judge start).late us u ≡ Some stop.why) × m.wrote start first out us
 VisitsOne m start first new out number us u (Err Read) = ⊥

@@ -1,5 +1,5 @@
 use Rattle.std.proofs.Common.{string_bytes, arith}
-use Rattle.mv_cli.proofs.Few.{one, alone}
+use Rattle.mv_cli.proofs.Two.{one, alone}
 use Rattle.mv_cli.proofs.command.is_word.Goals as goal
 
 pub returns-in-len1 : goal.returns-in-len1

@@ -1,6 +1,6 @@
 use Rattle.std.proofs.Common.{ℕ, List, string_bytes, MatchOption, subst, arith}
 use Rattle.mv_cli.specs.Words.{IsExtract}
-use Rattle.mv_cli.proofs.Few.{pair, two}
+use Rattle.mv_cli.proofs.Two.{pair, two}
 use Rattle.mv_cli.proofs.command.set_of.Goals as goal
 
 pub returns-in-len2 : goal.returns-in-len2

@@ -3,9 +3,8 @@ use Rattle.mv_judging.specs.Format.{byte_stream}
 use Rattle.mv_extract.specs.Text.{extraction, total}
 use Rattle.mv_prefixed.specs.Form.{length_form}
 use Rattle.mv_lenform.specs.Carrying.{carrying}
-use Rattle.mv_show.specs.Text.{showing}
 use Rattle.mv_lenform.specs.declared.carrier.Target.TheVariants.{Framed, Prefixed}
-use Rattle.mv_cli.specs.declared.command.Command.TheVariants.{Check, Extract, Pack, Show, Unpack}
+use Rattle.mv_cli.specs.declared.command.Command.TheVariants.{Check, Extract, Pack, Unpack}
 use Rattle.mv_cli.specs.Words.{Means}
 use Rattle.mv_cli.proofs.Headline.{as_plain, caused_by, less}
 use Rattle.mv_cli.proofs.run.end.Goals as goal
@@ -19,11 +18,6 @@ pub returns-in-Some-Check : goal.returns-in-Some-Check
 returns-in-Some-Check g c =
     caused_by _ c.args.limit _ _ Check c.check_all.result c.of-in-Some-Check.result (subst (Means _) c.in-Some-Check.field-0-is c.in-Some-Check.ensures)
     (as_plain c.args.limit _ _ c.check_all.result c.check_all.ensures) c.of-in-Some-Check.ensures
-
-pub returns-in-Some-Show : goal.returns-in-Some-Show
-returns-in-Some-Show g c =
-    caused_by _ c.args.limit _ _ Show c.show.result c.of-in-Some-Show.result (subst (Means _) c.in-Some-Show.field-0-is c.in-Some-Show.ensures)
-    (less byte_stream showing (total 0) c.args.limit _ _ c.show.result c.show.ensures.answers) c.of-in-Some-Show.ensures
 
 pub returns-in-Some-Pack : goal.returns-in-Some-Pack
 returns-in-Some-Pack g c =

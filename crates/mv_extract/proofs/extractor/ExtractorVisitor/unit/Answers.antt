@@ -1,5 +1,4 @@
-use Rattle.std.proofs.Common.{◌≡◌, ◌∙◌, true, false}
-use Rattle.std.proofs.lemmas.Bool.{not-false, not-true}
+use Rattle.std.proofs.Common.{◌≡◌, ◌∙◌, true, false, rules}
 use Rattle.mv_bytestream.specs.Found.{found_unit}
 use Rattle.mv_pictures.specs.Verdict.{bytes_of}
 use Rattle.mv_walk.specs.Standing.{Stands}
@@ -21,13 +20,13 @@ returns-in-Err g c = record {
       (c.in-Err.ensures.accepts (bytes_of us) stands.1 (countable us c.args.number counted c.requires.ready.countable)) wrote;
 }
 
-pub returns-then-not-step : goal.returns-then-not-step
-returns-then-not-step g c = record {
+pub returns-then-not-kept : goal.returns-then-not-kept
+returns-then-not-kept g c = record {
   visits = λ start first us stands wrote counted.
       let new : Extractor g.row.K.Denot = record c.args.self.now { walker = c.accept.new.walker } in
-      let dropped : c.in-Ok.step.kept ≡ false = not-true c.in-Ok.step.kept c.if-not-step.true in
+      let dropped : c.in-Ok.kept ≡ false = search rules in
       drops g.K.Sink.state (λ (v : Extractor g.row.K.Denot). v.walker.asked) (λ (v : Extractor g.row.K.Denot) us. Stands v.walker us) (λ (v : Extractor g.row.K.Denot). v.totals)
-      start new first c.args.out.now us (found_unit c.args.found.now) c.args.self.now.walker.asked c.in-Ok.step stands.0 (c.in-Ok.ensures.asked ∙ stands.0)
+      start new first c.args.out.now us (found_unit c.args.found.now) c.args.self.now.walker.asked c.in-Ok.kept stands.0 (c.in-Ok.ensures.asked ∙ stands.0)
       (c.in-Ok.ensures.accepts (bytes_of us) stands.1 (countable us c.args.number counted c.requires.ready.countable)) dropped wrote;
 }
 
@@ -35,9 +34,9 @@ pub returns-in-Ok-frame : goal.returns-in-Ok-frame
 returns-in-Ok-frame g c = record {
   visits = λ start first us stands wrote counted.
       let new : Extractor g.row.K.Denot = record c.args.self.now { walker = c.accept.new.walker } in
-      let kept : c.in-Ok.step.kept ≡ true = not-false c.in-Ok.step.kept c.if-not-step.false in
+      let kept : c.in-Ok.kept ≡ true = search rules in
       frames g.K.Sink.state (λ (v : Extractor g.row.K.Denot). v.walker.asked) (λ (v : Extractor g.row.K.Denot) us. Stands v.walker us) (λ (v : Extractor g.row.K.Denot). v.totals)
-      start new first c.args.out.now c.frame.new.sink us (found_unit c.args.found.now) c.args.self.now.walker.asked c.in-Ok.step stands.0 (c.in-Ok.ensures.asked ∙ stands.0)
+      start new first c.args.out.now c.frame.new.sink us (found_unit c.args.found.now) c.args.self.now.walker.asked c.in-Ok.kept stands.0 (c.in-Ok.ensures.asked ∙ stands.0)
       (c.in-Ok.ensures.accepts (bytes_of us) stands.1 (countable us c.args.number counted c.requires.ready.countable)) kept wrote
       c.in-Ok-frame.ensures.all c.in-Ok-frame.ensures.cause.never_falls;
 }
@@ -45,9 +44,9 @@ returns-in-Ok-frame g c = record {
 pub returns-in-Err-frame : goal.returns-in-Err-frame
 returns-in-Err-frame g c = record {
   visits = λ start first us stands wrote counted.
-      let kept : c.in-Ok.step.kept ≡ true = not-false c.in-Ok.step.kept c.if-not-step.false in
+      let kept : c.in-Ok.kept ≡ true = search rules in
       fails g.K.Sink.state (λ (v : Extractor g.row.K.Denot). v.walker.asked) (λ (v : Extractor g.row.K.Denot) us. Stands v.walker us) (λ (v : Extractor g.row.K.Denot). v.totals)
-      start c.args.self.now first c.args.out.now c.frame.new.sink us (found_unit c.args.found.now) c.args.self.now.walker.asked c.in-Ok.step (Stands c.accept.new.walker) stands.0
+      start c.args.self.now first c.args.out.now c.frame.new.sink us (found_unit c.args.found.now) c.args.self.now.walker.asked c.in-Ok.kept (Stands c.accept.new.walker) stands.0
       (c.in-Ok.ensures.accepts (bytes_of us) stands.1 (countable us c.args.number counted c.requires.ready.countable)) kept wrote
       c.in-Err-frame.ensures.failed c.in-Err-frame.ensures.cause.never_falls c.in-Err-frame.ensures.cause.rose;
 }

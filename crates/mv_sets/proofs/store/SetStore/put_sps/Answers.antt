@@ -1,6 +1,6 @@
 use Rattle.std.proofs.Common.{ap, sym, subst, ◌∙◌}
 use Rattle.mv_sets.specs.Store.{Stands}
-use Rattle.mv_sets.proofs.Rooms.{kept-put, put-is, sps-put}
+use Rattle.mv_sets.proofs.Rooms.{put-is, sps-put}
 use Rattle.mv_sets.proofs.store.SetStore.put_sps.Goals as goal
 
 pub returns-clause-added : goal.returns-clause-added
@@ -15,10 +15,3 @@ pub invariant_of-self : goal.invariant_of-self
 invariant_of-self c =
     put-is (record { sps = c.self.inside.sps; pps = c.self.inside.pps }) c.self.invariant c.args.layer c.sps-inside.inside.0.0.sps_seq_parameter_set_id
     c.in_ok-set.set.value (record { layer = c.args.layer; payload = c.args.payload.now; value = c.args.sps }) c.in_ok-set.ensures c.requires.format c.put.new.self c.put.ensures
-
-pub returns-clause-kept : goal.returns-clause-kept
-returns-clause-kept c =
-    kept-put 16 c.self.inside.sps c.self.invariant.sps_room c.args.layer c.args.sps.0.opening.sps_seq_parameter_set_id c.requires.layer c.requires.id
-    c.sps-inside.inside.0.0.sps_seq_parameter_set_id
-    (ap (λ i. i.opening.sps_seq_parameter_set_id) c.sps-inside.view_is ∙ ap (λ v. v.0.opening.sps_seq_parameter_set_id) c.sps.view_is)
-    c.in_ok-set.set.value (record { layer = c.args.layer; payload = c.args.payload.now; value = c.args.sps }) c.in_ok-set.ensures c.put.new.self c.put.ensures

@@ -4,11 +4,6 @@ use Rattle.mv_walk.proofs.Causes.{of-breaks, same-stop, told}
 use Rattle.mv_walk.proofs.Causes as causes
 use Rattle.mv_walk.proofs.Joins.{joins-err, refused-never}
 use Rattle.mv_walk.proofs.Joining.{few-items, joined}
-use Rattle.std.specs.Prelude.{Ok}
-use Rattle.mv_walk.proofs.TellingMore.{below-between, references-between}
-use Rattle.mv_pictures.specs.AccessUnits.{number}
-use Rattle.mv_walk_laws.specs.Streams.{item_behind, placed_units, current}
-use Rattle.mv_walk.proofs.ShownNext.{next-told, regular}
 use Rattle.mv_walk.proofs.course.Course.join.Goals as goal
 
 pub returns-in-Err-clause-joins : goal.returns-in-Err-clause-joins
@@ -31,14 +26,6 @@ returns-in-Ok-between-clause-joins g c = λ us u stood few is.
     joined c.args.self.now _ us u c.args.head c.in-Ok.step stood is (c.in-Ok.ensures.answer _ _ stood.units_are is (few-items us few)) (c.in-Ok.ensures.stands _ _ stood.units_are is (few-items us few) refl)
     c.in-Ok-between.ensures.between refl c.between.ensures.asked
 
-pub returns-in-Ok-between-clause-references : goal.returns-in-Ok-between-clause-references
-returns-in-Ok-between-clause-references g c = λ us stood refs.
-    references-between c.in-Ok.step.begins c.args.self.now.decoder c.between.new.self (history_of us) (Ok c.in-Ok.step) stood.decoder_is.keeps refs c.in-Ok-between.ensures.between
-
-pub returns-in-Ok-between-clause-below : goal.returns-in-Ok-between-clause-below
-returns-in-Ok-between-clause-below g c = λ below.
-    below-between c.in-Ok.step.begins c.args.self.now.decoder c.between.new.self (history_of c.requires.has.units) (Ok c.in-Ok.step) c.requires.has.stood.decoder_is.keeps below c.in-Ok-between.ensures.between
-
 pub returns-in-Ok-between-clause-rest : goal.returns-in-Ok-between-clause-rest
 returns-in-Ok-between-clause-rest g c = refl
 
@@ -59,16 +46,3 @@ returns-in-Err-between-clause-asked g c = c.between.ensures.asked
 
 pub returns-in-Err-between-clause-cause : goal.returns-in-Err-between-clause-cause
 returns-in-Err-between-clause-cause g c = told _ _ _ _ c.between.ensures.cause (λ wrong. c.in-Err-between.is ∙ same-stop c.in-Err-between.stop wrong)
-
-pub returns-in-Err-clause-values : goal.returns-in-Err-clause-values
-returns-in-Err-clause-values g c = λ us u shown stood few is values. absurd (refused-never us u c.args.head c.in-Err.rule is (c.in-Err.ensures.answer _ _ stood.units_are is (few-items us few)))
-
-pub returns-in-Ok-between-clause-values : goal.returns-in-Ok-between-clause-values
-returns-in-Ok-between-clause-values g c = λ us u shown stood few is values.
-    c.in-Ok-between.ensures.values (history_of us) (current us) (number (placed_units us) (item_behind us u)) shown (regular c.args.self.now us stood)
-    (next-told us u c.args.head c.in-Ok.step is (c.in-Ok.ensures.answer _ _ stood.units_are is (few-items us few))) values
-
-pub returns-in-Err-between-clause-values : goal.returns-in-Err-between-clause-values
-returns-in-Err-between-clause-values g c = λ us u shown stood few is values.
-    c.in-Err-between.ensures.values (history_of us) (current us) (number (placed_units us) (item_behind us u)) shown (regular c.args.self.now us stood)
-    (next-told us u c.args.head c.in-Ok.step is (c.in-Ok.ensures.answer _ _ stood.units_are is (few-items us few))) values

@@ -17,9 +17,3 @@ returns-else-is_end-clause-passed g c = λ us u old joined stood role. passed-ov
 
 pub returns-else-is_end-clause-asked : goal.returns-else-is_end-clause-asked
 returns-else-is_end-clause-asked g c = refl
-
-pub returns-then-is_end-clause-kept : goal.returns-then-is_end-clause-kept
-returns-then-is_end-clause-kept g c = c.eos.ensures.rest
-
-pub returns-else-is_end-clause-kept : goal.returns-else-is_end-clause-kept
-returns-else-is_end-clause-kept g c = refl

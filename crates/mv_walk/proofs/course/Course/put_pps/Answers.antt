@@ -1,4 +1,4 @@
-use Rattle.std.proofs.Common.{◌<◌, ℕ, List, refl, sym, subst, ◌∙◌, ◌≡◌, Some, ap}
+use Rattle.std.proofs.Common.{◌<◌, ℕ, List, refl, sym, subst, ◌∙◌}
 use Rattle.mv_walk_sets.specs.InForce.{CarriedPpsValue}
 use Rattle.mv_sets.specs.Store.{CarriesPps, Stands}
 use Rattle.mv_sets.specs.StoreValue.{StoreValue}
@@ -6,9 +6,6 @@ use Rattle.mv_pictures.specs.History.{facts_of}
 use Rattle.mv_commuting.specs.OneMore.{fact_behind}
 use Rattle.mv_walk.proofs.SetTakes.{on-ok}
 use Rattle.mv_walk.proofs.PutSets.{carries-pps, pps-stood}
-use Rattle.std.specs.Prelude.{option_map}
-use Rattle.mv_sets.specs.Tables.{found}
-use Rattle.mv_walk.specs.declared.last.Carried.{Carried}
 use Rattle.mv_walk.proofs.course.Course.put_pps.Goals as goal
 
 pub same-value : goal.same-value
@@ -29,9 +26,6 @@ returns-then-is_err-clause-memory g c = refl
 pub returns-then-is_err-clause-asked : goal.returns-then-is_err-clause-asked
 returns-then-is_err-clause-asked g c = refl
 
-pub returns-then-is_err-clause-pictures : goal.returns-then-is_err-clause-pictures
-returns-then-is_err-clause-pictures g c = refl
-
 pub returns-clause-puts : goal.returns-clause-puts
 returns-clause-puts g c = λ us u old joined stood new.
     pps-stood old c.args.self.now _ us u c.args.layer c.args.carried joined stood new refl refl refl refl
@@ -40,20 +34,6 @@ returns-clause-puts g c = λ us u old joined stood new.
     (subst (λ (p : List ℕ). CarriesPps (fact_behind us u) c.args.layer p c.carried.inside.value.0) (sym c.deref.ensures.value)
     (subst (λ (s : CarriedPpsValue). CarriesPps (fact_behind us u) c.args.layer s.payload s.value.0) (sym c.carried.view_is) (carries-pps _ us u c.args.layer c.args.carried new))))
     (sym c.is_err.ensures.value ∙ c.if-is_err.false))
-
-pub returns-clause-last : goal.returns-clause-last
-returns-clause-last g c =
-    ap (Carried.Pps c.args.layer)
-    (ap (λ v. v.0.opening.pps_pic_parameter_set_id) c.value.view_is ∙ ap (λ (s : CarriedPpsValue). s.value.0.opening.pps_pic_parameter_set_id) c.carried.view_is)
-
-pub returns-clause-kept : goal.returns-clause-kept
-returns-clause-kept g c =
-    subst (λ (s : CarriedPpsValue). option_map (λ n. n.set) (found c.put_pps.new.self.pps s.value.0.opening.pps_pic_parameter_set_id c.args.layer) ≡ Some (record { layer = c.args.layer; payload = s.payload; value = s.value })) c.carried.view_is
-    (subst (λ (p : List ℕ). option_map (λ n. n.set) (found c.put_pps.new.self.pps c.carried.inside.value.0.opening.pps_pic_parameter_set_id c.args.layer) ≡ Some (record { layer = c.args.layer; payload = p; value = c.carried.inside.value })) c.deref.ensures.value
-    (on-ok _ c.put_pps.ensures.kept (sym c.is_err.ensures.value ∙ c.if-is_err.false)))
-
-pub returns-clause-pictures : goal.returns-clause-pictures
-returns-clause-pictures g c = refl
 
 pub returns-clause-none : goal.returns-clause-none
 returns-clause-none g c = refl

@@ -1,4 +1,4 @@
-use Rattle.std.proofs.Common.{◌<◌, ℕ, List, refl, sym, subst, ◌∙◌, ◌≡◌, Some, ap}
+use Rattle.std.proofs.Common.{◌<◌, ℕ, List, refl, sym, subst, ◌∙◌}
 use Rattle.mv_sets.specs.Formats.{SpsFormatFits}
 use Rattle.mv_walk_sets.specs.InForce.{CarriedSpsValue}
 use Rattle.mv_sets.specs.Store.{CarriesSps, Stands}
@@ -7,9 +7,6 @@ use Rattle.mv_pictures.specs.History.{facts_of}
 use Rattle.mv_commuting.specs.OneMore.{fact_behind}
 use Rattle.mv_walk.proofs.SetTakes.{on-ok}
 use Rattle.mv_walk.proofs.PutSets.{carries-sps, sps-stood}
-use Rattle.std.specs.Prelude.{option_map}
-use Rattle.mv_sets.specs.Tables.{found}
-use Rattle.mv_walk.specs.declared.last.Carried.{Carried}
 use Rattle.mv_walk.proofs.course.Course.put_sps.Goals as goal
 
 pub same-value : goal.same-value
@@ -36,9 +33,6 @@ returns-then-is_err-clause-memory g c = refl
 pub returns-then-is_err-clause-asked : goal.returns-then-is_err-clause-asked
 returns-then-is_err-clause-asked g c = refl
 
-pub returns-then-is_err-clause-pictures : goal.returns-then-is_err-clause-pictures
-returns-then-is_err-clause-pictures g c = refl
-
 pub returns-clause-puts : goal.returns-clause-puts
 returns-clause-puts g c = λ us u old joined stood new.
     sps-stood old c.args.self.now _ us u c.args.layer c.args.carried joined stood new refl refl refl refl
@@ -47,21 +41,6 @@ returns-clause-puts g c = λ us u old joined stood new.
     (subst (λ (p : List ℕ). CarriesSps (fact_behind us u) c.args.layer p c.carried.inside.value.0) (sym c.deref.ensures.value)
     (subst (λ (s : CarriedSpsValue). CarriesSps (fact_behind us u) c.args.layer s.payload s.value.0) (sym c.carried.view_is) (carries-sps _ us u c.args.layer c.args.carried new))))
     (sym c.is_err.ensures.value ∙ c.if-is_err.false))
-
-pub returns-clause-last : goal.returns-clause-last
-returns-clause-last g c =
-    ap (Carried.Sps c.args.layer)
-    (ap (λ i. i.opening.sps_seq_parameter_set_id) c.value-inside.view_is ∙ ap (λ v. v.0.opening.sps_seq_parameter_set_id) c.value.view_is
-    ∙ ap (λ (s : CarriedSpsValue). s.value.0.opening.sps_seq_parameter_set_id) c.carried.view_is)
-
-pub returns-clause-kept : goal.returns-clause-kept
-returns-clause-kept g c =
-    subst (λ (s : CarriedSpsValue). option_map (λ n. n.set) (found c.put_sps.new.self.sps s.value.0.opening.sps_seq_parameter_set_id c.args.layer) ≡ Some (record { layer = c.args.layer; payload = s.payload; value = s.value })) c.carried.view_is
-    (subst (λ (p : List ℕ). option_map (λ n. n.set) (found c.put_sps.new.self.sps c.carried.inside.value.0.opening.sps_seq_parameter_set_id c.args.layer) ≡ Some (record { layer = c.args.layer; payload = p; value = c.carried.inside.value })) c.deref.ensures.value
-    (on-ok _ c.put_sps.ensures.kept (sym c.is_err.ensures.value ∙ c.if-is_err.false)))
-
-pub returns-clause-pictures : goal.returns-clause-pictures
-returns-clause-pictures g c = refl
 
 pub returns-clause-none : goal.returns-clause-none
 returns-clause-none g c = refl

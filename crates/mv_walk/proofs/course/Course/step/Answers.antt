@@ -4,9 +4,6 @@ use Rattle.mv_walk_sets.specs.InForce.{AreRead}
 use Rattle.mv_walk.specs.Taking.{IsRole}
 use Rattle.mv_walk.proofs.Causes as causes
 use Rattle.mv_walk.proofs.Stepped.{HasHead, head-read, head-refused, role-refused, role-told, steps-err, steps-ok}
-use Rattle.mv_walk.specs.declared.ending.Stop.{Stop as StopValue}
-use Rattle.mv_walk.specs.declared.step.Step.{Step as StepValue}
-use Rattle.mv_walk.proofs.ShownStops.{none-shown, steps-stops}
 use Rattle.mv_walk.proofs.course.Course.step.Goals as goal
 
 pub returns-in-Err-clause-steps : goal.returns-in-Err-clause-steps
@@ -52,13 +49,6 @@ returns-in-Ok-take-clause-steps g c = λ us stood few.
     role-told c.args.self.now us c.args.unit.now c.in-Ok.head c.in-Ok-role_of.role _ stood c.requires.clean byte has c.as_ref.ensures.value c.in-Ok-role_of.ensures.role c.in-Ok-role_of.ensures.decides in
     steps-ok c.args.self.now c.take.new.self us c.args.unit.now c.in-Ok.head c.in-Ok-take.picture _ c.keeps.result has.head_is (c.in-Ok-take.ensures.takes us stood few role) c.as_ref-in-Ok-take.ensures.value c.take.ensures.asked c.keeps.ensures
 
-pub returns-in-Ok-take-clause-tells : goal.returns-in-Ok-take-clause-tells
-returns-in-Ok-take-clause-tells g c = λ us stood tells few.
-    let byte : slice_index c.args.unit.now 1 < 256 = search rules in
-    let role : IsRole us c.args.unit.now c.in-Ok.head c.in-Ok-role_of.role =
-    role-told c.args.self.now us c.args.unit.now c.in-Ok.head c.in-Ok-role_of.role _ stood c.requires.clean byte (head-read c.args.unit.now c.in-Ok.head (sym c.in-Ok.ensures)) c.as_ref.ensures.value c.in-Ok-role_of.ensures.role c.in-Ok-role_of.ensures.decides in
-    c.in-Ok-take.ensures.tells us stood tells few role
-
 pub returns-in-Ok-take-clause-asked : goal.returns-in-Ok-take-clause-asked
 returns-in-Ok-take-clause-asked g c = c.take.ensures.asked
 
@@ -77,25 +67,3 @@ returns-in-Err-take-clause-asked g c = c.take.ensures.asked
 
 pub returns-in-Err-take-clause-cause : goal.returns-in-Err-take-clause-cause
 returns-in-Err-take-clause-cause g c = causes.told _ _ _ _ c.take.ensures.cause (λ wrong. c.in-Err-take.is ∙ causes.same-stop c.in-Err-take.stop wrong)
-
-pub returns-in-Err-clause-values : goal.returns-in-Err-clause-values
-returns-in-Err-clause-values g c = λ us shown stood few values.
-    none-shown StepValue g.V.Viewer.viewing c.args.viewer.now (g.R.Rebuild.meaning c.args.rebuild.now) c.args.self.now c.args.self.now us c.args.unit.now (StopValue.Breaks c.in-Err.rule) shown (causes.of-breaks c.in-Err.rule) stood values
-
-pub returns-in-Err-role_of-clause-values : goal.returns-in-Err-role_of-clause-values
-returns-in-Err-role_of-clause-values g c = λ us shown stood few values.
-    none-shown StepValue g.V.Viewer.viewing c.args.viewer.now (g.R.Rebuild.meaning c.args.rebuild.now) c.args.self.now c.args.self.now us c.args.unit.now (StopValue.Breaks c.in-Err-role_of.rule) shown (causes.of-breaks c.in-Err-role_of.rule) stood values
-
-pub returns-in-Ok-take-clause-values : goal.returns-in-Ok-take-clause-values
-returns-in-Ok-take-clause-values g c = λ us shown stood few values.
-    let byte : slice_index c.args.unit.now 1 < 256 = search rules in
-    let role : IsRole us c.args.unit.now c.in-Ok.head c.in-Ok-role_of.role =
-    role-told c.args.self.now us c.args.unit.now c.in-Ok.head c.in-Ok-role_of.role _ stood c.requires.clean byte (head-read c.args.unit.now c.in-Ok.head (sym c.in-Ok.ensures)) c.as_ref.ensures.value c.in-Ok-role_of.ensures.role c.in-Ok-role_of.ensures.decides in
-    c.in-Ok-take.ensures.values us shown stood few role values
-
-pub returns-in-Err-take-clause-values : goal.returns-in-Err-take-clause-values
-returns-in-Err-take-clause-values g c = λ us shown stood few values.
-    let byte : slice_index c.args.unit.now 1 < 256 = search rules in
-    let role : IsRole us c.args.unit.now c.in-Ok.head c.in-Ok-role_of.role =
-    role-told c.args.self.now us c.args.unit.now c.in-Ok.head c.in-Ok-role_of.role _ stood c.requires.clean byte (head-read c.args.unit.now c.in-Ok.head (sym c.in-Ok.ensures)) c.as_ref.ensures.value c.in-Ok-role_of.ensures.role c.in-Ok-role_of.ensures.decides in
-    steps-stops g.V.Viewer.viewing c.args.viewer.now c.take.new.viewer (g.R.Rebuild.meaning c.args.rebuild.now) c.args.self.now.decoder.asked us c.args.unit.now c.take.new.self c.take.new.self c.in-Err-take.stop shown (c.in-Err-take.ensures.values us shown stood few role values)

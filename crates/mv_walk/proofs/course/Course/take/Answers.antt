@@ -1,25 +1,14 @@
-use Rattle.std.proofs.Common.{ap, sym, subst, ◌∙◌, [], ◌∷◌, ◌++◌, None}
+use Rattle.std.proofs.Common.{ap, sym, subst, ◌∙◌}
 use Rattle.mv_walk.specs.Taking.{IsRole, MayTake, Takes}
 use Rattle.mv_walk.specs.declared.course.Course.{Course}
 use Rattle.mv_walk.proofs.Causes as causes
 use Rattle.mv_walk.proofs.StoodMore.{stray-takes}
-use Rattle.std.specs.Prelude.{OnOk}
-use Rattle.mv_walk.specs.Telling.{Tells}
-use Rattle.mv_walk.proofs.TellingSets.{tells-stray}
-use Rattle.mv_walk.specs.Seen.{Gains, StepsValues, is_view}
-use Rattle.mv_walk.proofs.ShownStops.{Told}
-use Rattle.mv_walk.proofs.ShownUnits.{stray-values}
 use Rattle.mv_walk.proofs.course.Course.take.Goals as goal
 
 pub returns-in-Stray-clause-takes : goal.returns-in-Stray-clause-takes
 returns-in-Stray-clause-takes g c = λ us stood few role.
     subst (Takes c.args.self.now.decoder.asked us c.args.unit.now c.pass_over.new.self) (sym c.pass_over.ensures.none)
     (stray-takes c.args.self.now c.pass_over.new.self us c.args.unit.now c.args.head c.pass_over.ensures.rest stood (subst (IsRole us c.args.unit.now c.args.head) c.in-Stray.is role))
-
-pub returns-in-Stray-clause-tells : goal.returns-in-Stray-clause-tells
-returns-in-Stray-clause-tells g c = λ us stood tells few role.
-    subst (λ r. OnOk r (Tells c.pass_over.new.self (us ++ c.args.unit.now ∷ []))) (sym c.pass_over.ensures.none)
-    (tells-stray c.args.self.now c.pass_over.new.self us c.args.unit.now c.args.head (subst (IsRole us c.args.unit.now c.args.head) c.in-Stray.is role) tells c.pass_over.ensures.rest c.pass_over.ensures.last)
 
 pub returns-in-Stray-clause-asked : goal.returns-in-Stray-clause-asked
 returns-in-Stray-clause-asked g c = ap (λ (x : Course g.row.R.Denot g.row.R-Work.Denot g.row.R-Pic.Denot). x.decoder.asked) c.pass_over.ensures.rest
@@ -33,9 +22,6 @@ take_passed-requires g c = record { may = (c.args.unit.now, subst (MayTake c.arg
 pub returns-in-Passed-clause-takes : goal.returns-in-Passed-clause-takes
 returns-in-Passed-clause-takes g c = λ us stood few role. c.take_passed.ensures.takes us c.args.unit.now stood few (subst (IsRole us c.args.unit.now c.args.head) c.in-Passed.is role)
 
-pub returns-in-Passed-clause-tells : goal.returns-in-Passed-clause-tells
-returns-in-Passed-clause-tells g c = λ us stood tells few role. c.take_passed.ensures.tells us c.args.unit.now stood tells few (subst (IsRole us c.args.unit.now c.args.head) c.in-Passed.is role)
-
 pub returns-in-Passed-clause-asked : goal.returns-in-Passed-clause-asked
 returns-in-Passed-clause-asked g c = c.take_passed.ensures.asked
 
@@ -47,9 +33,6 @@ take_vps-requires g c = record { may = subst (MayTake c.args.self.now c.args.uni
 
 pub returns-in-Vps-clause-takes : goal.returns-in-Vps-clause-takes
 returns-in-Vps-clause-takes g c = λ us stood few role. c.take_vps.ensures.takes us stood few (subst (IsRole us c.args.unit.now c.args.head) c.in-Vps.is role)
-
-pub returns-in-Vps-clause-tells : goal.returns-in-Vps-clause-tells
-returns-in-Vps-clause-tells g c = λ us stood tells few role. c.take_vps.ensures.tells us stood tells few (subst (IsRole us c.args.unit.now c.args.head) c.in-Vps.is role)
 
 pub returns-in-Vps-clause-asked : goal.returns-in-Vps-clause-asked
 returns-in-Vps-clause-asked g c = c.take_vps.ensures.asked
@@ -63,9 +46,6 @@ take_sps-requires g c = record { may = subst (MayTake c.args.self.now c.args.uni
 pub returns-in-Sps-clause-takes : goal.returns-in-Sps-clause-takes
 returns-in-Sps-clause-takes g c = λ us stood few role. c.take_sps.ensures.takes us stood few (subst (IsRole us c.args.unit.now c.args.head) c.in-Sps.is role)
 
-pub returns-in-Sps-clause-tells : goal.returns-in-Sps-clause-tells
-returns-in-Sps-clause-tells g c = λ us stood tells few role. c.take_sps.ensures.tells us stood tells few (subst (IsRole us c.args.unit.now c.args.head) c.in-Sps.is role)
-
 pub returns-in-Sps-clause-asked : goal.returns-in-Sps-clause-asked
 returns-in-Sps-clause-asked g c = c.take_sps.ensures.asked
 
@@ -77,9 +57,6 @@ take_pps-requires g c = record { may = subst (MayTake c.args.self.now c.args.uni
 
 pub returns-in-Pps-clause-takes : goal.returns-in-Pps-clause-takes
 returns-in-Pps-clause-takes g c = λ us stood few role. c.take_pps.ensures.takes us stood few (subst (IsRole us c.args.unit.now c.args.head) c.in-Pps.is role)
-
-pub returns-in-Pps-clause-tells : goal.returns-in-Pps-clause-tells
-returns-in-Pps-clause-tells g c = λ us stood tells few role. c.take_pps.ensures.tells us stood tells few (subst (IsRole us c.args.unit.now c.args.head) c.in-Pps.is role)
 
 pub returns-in-Pps-clause-asked : goal.returns-in-Pps-clause-asked
 returns-in-Pps-clause-asked g c = c.take_pps.ensures.asked
@@ -93,31 +70,8 @@ take_slice-requires g c = record { may = subst (MayTake c.args.self.now c.args.u
 pub returns-in-Slice-clause-takes : goal.returns-in-Slice-clause-takes
 returns-in-Slice-clause-takes g c = λ us stood few role. c.take_slice.ensures.takes us stood few (subst (IsRole us c.args.unit.now c.args.head) c.in-Slice.is role)
 
-pub returns-in-Slice-clause-tells : goal.returns-in-Slice-clause-tells
-returns-in-Slice-clause-tells g c = λ us stood tells few role. c.take_slice.ensures.tells us stood tells few (subst (IsRole us c.args.unit.now c.args.head) c.in-Slice.is role)
-
 pub returns-in-Slice-clause-asked : goal.returns-in-Slice-clause-asked
 returns-in-Slice-clause-asked g c = c.take_slice.ensures.asked
 
 pub returns-in-Slice-clause-cause : goal.returns-in-Slice-clause-cause
 returns-in-Slice-clause-cause g c = c.take_slice.ensures.cause
-
-pub returns-in-Stray-clause-values : goal.returns-in-Stray-clause-values
-returns-in-Stray-clause-values g c = λ us shown stood few role values.
-    subst (λ r. Gains g.V.Viewer.viewing c.args.viewer.now c.args.viewer.now (is_view r) shown (StepsValues {T = Told} (g.R.Rebuild.meaning c.args.rebuild.now) c.args.self.now.decoder.asked us c.args.unit.now c.pass_over.new.self r)) (sym c.pass_over.ensures.none)
-    (stray-values g.V.Viewer.viewing c.args.viewer.now (g.R.Rebuild.meaning c.args.rebuild.now) c.args.self.now c.pass_over.new.self us c.args.unit.now c.args.head None shown c.pass_over.ensures.rest (subst (IsRole us c.args.unit.now c.args.head) c.in-Stray.is role) values)
-
-pub returns-in-Passed-clause-values : goal.returns-in-Passed-clause-values
-returns-in-Passed-clause-values g c = λ us shown stood few role values. c.take_passed.ensures.values us c.args.unit.now shown stood few (subst (IsRole us c.args.unit.now c.args.head) c.in-Passed.is role) values
-
-pub returns-in-Vps-clause-values : goal.returns-in-Vps-clause-values
-returns-in-Vps-clause-values g c = λ us shown stood few role values. c.take_vps.ensures.values us shown stood few (subst (IsRole us c.args.unit.now c.args.head) c.in-Vps.is role) values
-
-pub returns-in-Sps-clause-values : goal.returns-in-Sps-clause-values
-returns-in-Sps-clause-values g c = λ us shown stood few role values. c.take_sps.ensures.values us shown stood few (subst (IsRole us c.args.unit.now c.args.head) c.in-Sps.is role) values
-
-pub returns-in-Pps-clause-values : goal.returns-in-Pps-clause-values
-returns-in-Pps-clause-values g c = λ us shown stood few role values. c.take_pps.ensures.values us shown stood few (subst (IsRole us c.args.unit.now c.args.head) c.in-Pps.is role) values
-
-pub returns-in-Slice-clause-values : goal.returns-in-Slice-clause-values
-returns-in-Slice-clause-values g c = λ us shown stood few role values. c.take_slice.ensures.values us shown stood few (subst (IsRole us c.args.unit.now c.args.head) c.in-Slice.is role) values

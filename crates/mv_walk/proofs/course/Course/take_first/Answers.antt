@@ -1,12 +1,10 @@
-use Rattle.std.proofs.Common.{Some, true, refl, ap, sym, subst, ◌∙◌}
+use Rattle.std.proofs.Common.{true, refl, ap, sym, subst, ◌∙◌}
 use Rattle.std.specs.Prelude.{Ok, Err}
 use Rattle.mv_pictures.specs.History.{history_of}
 use Rattle.mv_commuting.specs.OneMore.{fact_behind}
 use Rattle.mv_walk_sets.specs.InForce.{VpsInForceValue}
 use Rattle.mv_walk.specs.Taking.{Takes}
-use Rattle.mv_walk.specs.declared.course.Course.{Course}
 use Rattle.mv_walk.specs.declared.ending.Stop.{Stop as StopValue}
-use Rattle.mv_walk.specs.declared.last.Carried.{Carried}
 use Rattle.mv_walk.proofs.Causes as causes
 use Rattle.mv_walk.proofs.FirstTakes.{begun-by, first-can, first-in-stream, first-lacks, first-names, first-reads, first-unjoined}
 use Rattle.mv_walk.proofs.SegmentTold.{short-unit, told-segment}
@@ -14,14 +12,6 @@ use Rattle.mv_walk.proofs.Joining.{few-items}
 use Rattle.mv_walk.proofs.LaterTakes.{first-read-refused}
 use Rattle.mv_walk.proofs.Needing.{segment-needs}
 use Rattle.mv_walk.proofs.Segments.{first-refused, first-takes}
-use Rattle.mv_walk.proofs.TellingBelow.{below-first}
-use Rattle.mv_walk.proofs.TellingSome.{full-here, some-first}
-use Rattle.mv_walk.proofs.TellingSegments.{first-here, orderly-more, slice-here, tells-first}
-use Rattle.mv_walk_laws.specs.Streams.{current}
-use Rattle.mv_walk_laws.proofs.Steps.{answer-ok}
-use Rattle.mv_walk.proofs.ShownFirst.{comes-next, first-values}
-use Rattle.mv_walk.proofs.ShownNext.{next-first}
-use Rattle.mv_walk.proofs.ShownStops.{Told, first-stops, none-shown}
 use Rattle.mv_walk.proofs.course.Course.take_first.Goals as goal
 
 pub returns-in_default-clause-takes : goal.returns-in_default-clause-takes
@@ -88,23 +78,6 @@ returns-in-Ok-first-clause-takes g c = λ us stood few role.
     first-takes c.args.self.now _ us c.args.unit.now c.args.head c.args.pps_id c.in-Some.vps c.in-Ok-read.header c.in-Ok-first.told stood role c.requires.peek c.in-Some.is b.header b.unit
     (c.in-Ok-first.ensures.takes (history_of us) (fact_behind us c.args.unit.now) stood.decoder_is.keeps b.first) c.first.ensures.asked refl refl refl b.tracked
 
-pub returns-in-Ok-first-clause-tells : goal.returns-in-Ok-first-clause-tells
-returns-in-Ok-first-clause-tells g c = λ us stood tells few role.
-    let b = begun-by c.args.self.now us c.args.unit.now c.args.pps_id c.in-Some.vps c.vps.inside.value
-    (record { head = c.args.head; au = c.in-Ok-step.step.au; behind_change = c.eq.result; served = c.in-Ok.served; header = c.in-Ok-read.header })
-    c.in-Ok-step.step c.step.new.self stood few role c.requires.peek c.in-Some.is (ap (λ (v : VpsInForceValue). v.value) c.vps.view_is) refl c.eq.ensures c.in-Ok.ensures.answer c.in-Ok-read.ensures.answer
-    c.in-Ok-step.ensures.answer (λ before i s t f. c.in-Ok-step.ensures.stands before i s t f refl) in
-    let new : Course g.row.R.Denot g.row.R-Work.Denot g.row.R-Pic.Denot = record c.args.self.now { units = c.step.new.self; decoder = c.first.new.self; last = Carried.First } in
-    let all = first-takes c.args.self.now new us c.args.unit.now c.args.head c.args.pps_id c.in-Some.vps c.in-Ok-read.header c.in-Ok-first.told stood role c.requires.peek c.in-Some.is b.header b.unit
-    (c.in-Ok-first.ensures.takes (history_of us) (fact_behind us c.args.unit.now) stood.decoder_is.keeps b.first) c.first.ensures.asked refl refl refl b.tracked in
-    let taken = c.in-Ok-first.ensures.takes (history_of us) (fact_behind us c.args.unit.now) stood.decoder_is.keeps b.first in
-    let slice = slice-here us c.args.unit.now c.args.head role in
-    let picture = first-here us c.args.unit.now c.args.head c.args.pps_id true role c.requires.peek in
-    tells-first new us c.args.unit.now c.in-Some.vps slice picture c.in-Some.is refl taken.1.open_is
-    (some-first c.in-Some.vps c.first.new.self.picture (history_of us) (fact_behind us c.args.unit.now) picture taken.1.open_is taken.0)
-    (below-first c.in-Some.vps c.first.new.self.picture (history_of us) (fact_behind us c.args.unit.now) slice picture (full-here us c.args.unit.now c.args.head c.args.pps_id c.in-Ok-read.header role c.requires.peek b.header) taken.1.open_is)
-    (c.in-Ok-first.ensures.references (history_of us) (fact_behind us c.args.unit.now) stood.decoder_is.keeps b.first (orderly-more new us c.args.unit.now all.1))
-
 pub returns-in-Err-first-clause-takes : goal.returns-in-Err-first-clause-takes
 returns-in-Err-first-clause-takes g c = λ us stood few role.
     let b = begun-by c.args.self.now us c.args.unit.now c.args.pps_id c.in-Some.vps c.vps.inside.value
@@ -113,38 +86,3 @@ returns-in-Err-first-clause-takes g c = λ us stood few role.
     c.in-Ok-step.ensures.answer (λ before i s t f. c.in-Ok-step.ensures.stands before i s t f refl) in
     first-refused c.args.self.now.decoder.asked (record c.args.self.now { decoder = c.first.new.self }) c.args.self.now us c.args.unit.now c.args.head c.args.pps_id c.in-Some.vps c.in-Ok-read.header c.in-Err-first.stop role c.requires.peek b.header b.unit
     (c.in-Err-first.ensures.takes (history_of us) (fact_behind us c.args.unit.now) stood.decoder_is.keeps b.first)
-
-pub returns-in_default-clause-values : goal.returns-in_default-clause-values
-returns-in_default-clause-values g c = λ us shown stood few role values. absurd (segment-needs c.args.self.now c.args.unit.now c.args.head c.requires.may c.in_default.is)
-
-pub returns-in-Err-clause-values : goal.returns-in-Err-clause-values
-returns-in-Err-clause-values g c = λ us shown stood few role values.
-    none-shown Told g.V.Viewer.viewing c.args.viewer.now (g.R.Rebuild.meaning c.args.rebuild.now) c.args.self.now c.args.self.now us c.args.unit.now c.of_read.result shown (λ wrong. causes.read-unseen c.in-Err.fault (ap Err (sym c.of_read.ensures) ∙ wrong)) stood values
-
-pub returns-in-Err-read-clause-values : goal.returns-in-Err-read-clause-values
-returns-in-Err-read-clause-values g c = λ us shown stood few role values.
-    none-shown Told g.V.Viewer.viewing c.args.viewer.now (g.R.Rebuild.meaning c.args.rebuild.now) c.args.self.now c.args.self.now us c.args.unit.now c.of_read-in-Err-read.result shown (λ wrong. causes.read-unseen c.in-Err-read.fault (ap Err (sym c.of_read-in-Err-read.ensures) ∙ wrong)) stood values
-
-pub returns-in-Err-step-clause-values : goal.returns-in-Err-step-clause-values
-returns-in-Err-step-clause-values g c = λ us shown stood few role values.
-    none-shown Told g.V.Viewer.viewing c.args.viewer.now (g.R.Rebuild.meaning c.args.rebuild.now) c.args.self.now c.args.self.now us c.args.unit.now (StopValue.Breaks c.in-Err-step.rule) shown (causes.of-breaks c.in-Err-step.rule) stood values
-
-pub returns-in-Ok-first-clause-values : goal.returns-in-Ok-first-clause-values
-returns-in-Ok-first-clause-values g c = λ us shown stood few role values.
-    let b = begun-by c.args.self.now us c.args.unit.now c.args.pps_id c.in-Some.vps c.vps.inside.value
-    (record { head = c.args.head; au = c.in-Ok-step.step.au; behind_change = c.eq.result; served = c.in-Ok.served; header = c.in-Ok-read.header })
-    c.in-Ok-step.step c.step.new.self stood few role c.requires.peek c.in-Some.is (ap (λ (v : VpsInForceValue). v.value) c.vps.view_is) refl c.eq.ensures c.in-Ok.ensures.answer c.in-Ok-read.ensures.answer
-    c.in-Ok-step.ensures.answer (λ before i s t f. c.in-Ok-step.ensures.stands before i s t f refl) in
-    first-values g.V.Viewer.viewing c.args.viewer.now c.first.new.viewer (g.R.Rebuild.meaning c.args.rebuild.now) c.args.self.now.decoder.asked (record c.args.self.now { decoder = c.first.new.self }) us c.args.unit.now c.in-Ok-first.told (Some c.in-Ok-first.told) shown
-    (c.in-Ok-first.ensures.values (history_of us) (fact_behind us c.args.unit.now) (current us) shown stood.decoder_is.keeps b.first (comes-next c.args.self.now us c.args.unit.now c.args.head c.args.pps_id c.in-Some.vps c.in-Ok-read.header stood role c.requires.peek c.in-Some.is b.header b.unit)
-    (next-first us c.args.unit.now c.in-Ok-step.step (answer-ok us c.args.unit.now c.in-Ok-step.step (sym (c.in-Ok-step.ensures.answer _ _ stood.units_are (told-segment us c.args.unit.now c.args.head true c.args.pps_id role c.requires.peek) (few-items us few)))).0) values)
-
-pub returns-in-Err-first-clause-values : goal.returns-in-Err-first-clause-values
-returns-in-Err-first-clause-values g c = λ us shown stood few role values.
-    let b = begun-by c.args.self.now us c.args.unit.now c.args.pps_id c.in-Some.vps c.vps.inside.value
-    (record { head = c.args.head; au = c.in-Ok-step.step.au; behind_change = c.eq.result; served = c.in-Ok.served; header = c.in-Ok-read.header })
-    c.in-Ok-step.step c.step.new.self stood few role c.requires.peek c.in-Some.is (ap (λ (v : VpsInForceValue). v.value) c.vps.view_is) refl c.eq.ensures c.in-Ok.ensures.answer c.in-Ok-read.ensures.answer
-    c.in-Ok-step.ensures.answer (λ before i s t f. c.in-Ok-step.ensures.stands before i s t f refl) in
-    first-stops g.V.Viewer.viewing c.args.viewer.now c.first.new.viewer (g.R.Rebuild.meaning c.args.rebuild.now) c.args.self.now.decoder.asked us c.args.unit.now (fact_behind us c.args.unit.now) c.first.new.self c.args.self.now c.in-Err-first.stop shown
-    (c.in-Err-first.ensures.values (history_of us) (fact_behind us c.args.unit.now) (current us) shown stood.decoder_is.keeps b.first (comes-next c.args.self.now us c.args.unit.now c.args.head c.args.pps_id c.in-Some.vps c.in-Ok-read.header stood role c.requires.peek c.in-Some.is b.header b.unit)
-    (next-first us c.args.unit.now c.in-Ok-step.step (answer-ok us c.args.unit.now c.in-Ok-step.step (sym (c.in-Ok-step.ensures.answer _ _ stood.units_are (told-segment us c.args.unit.now c.args.head true c.args.pps_id role c.requires.peek) (few-items us few)))).0) values)

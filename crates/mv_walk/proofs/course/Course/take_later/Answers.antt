@@ -1,4 +1,4 @@
-use Rattle.std.proofs.Common.{◌≡◌, ℕ, false, List, None, refl, ap, sym, subst, ◌∙◌}
+use Rattle.std.proofs.Common.{◌≡◌, ℕ, false, List, None, refl, ap, sym, subst}
 use Rattle.std.specs.Prelude.{Err, Ok}
 use Rattle.mv_pictures.specs.History.{history_of}
 use Rattle.mv_walk_sets.specs.InForce.{AreRead, VpsInForceValue}
@@ -15,15 +15,6 @@ use Rattle.mv_walk.proofs.LaterTakes.{in-stream, later-read-refused, later-reads
 use Rattle.mv_walk.proofs.Needing.{segment-needs}
 use Rattle.mv_walk.proofs.SegmentTold.{short-unit, told-segment}
 use Rattle.mv_walk.proofs.Segments.{later-refused, later-takes, later-unit-refused}
-use Rattle.mv_walk.proofs.TellingMore.{references-over, references-same}
-use Rattle.mv_pictures.specs.Judged.{is_picture, is_slice}
-use Rattle.mv_walk_laws.proofs.OneMore.{fact-told}
-use Rattle.mv_walk.proofs.TellingBelow.{below-later}
-use Rattle.mv_walk.proofs.TellingSome.{some-later}
-use Rattle.mv_walk.proofs.TellingSegments.{first-here, slice-here, tells-later}
-use Rattle.mv_walk.proofs.ShownLater.{its-bytes, later-values, regular-here, values-here}
-use Rattle.mv_walk.proofs.ShownNext.{regular}
-use Rattle.mv_walk.proofs.ShownStops.{Told, stops-values}
 use Rattle.mv_walk.proofs.course.Course.take_later.Goals as goal
 
 pub returns-in_default-clause-takes : goal.returns-in_default-clause-takes
@@ -72,20 +63,6 @@ returns-in-Ok-later-clause-takes g c = λ us stood few role.
     (c.in-Ok-later.ensures.takes (history_of us) (placed_behind us c.args.unit.now) (stands-here c.args.self.now us c.args.unit.now c.args.head c.args.pps_id c.in-Some.vps stood role c.requires.peek c.in-Some.is c.in-Ok.header header unit) (asks c.args.self.now us c.args.unit.now c.args.head c.args.pps_id c.in-Some.vps stood role c.requires.peek c.in-Some.is c.in-Ok.header header unit).1)
     c.later.ensures.asked refl refl refl (c.in_default-step.ensures.stands _ _ stood.units_are (told-segment us c.args.unit.now c.args.head false c.args.pps_id role c.requires.peek) (few-items us few) refl)
 
-pub returns-in-Ok-later-clause-tells : goal.returns-in-Ok-later-clause-tells
-returns-in-Ok-later-clause-tells g c = λ us stood tells few role.
-    let header : IsHeader c.in-Ok.header (fact_behind us c.args.unit.now) = (later-reads-by c.args.self.now us c.args.unit.now c.args.head c.args.pps_id c.in-Some.vps c.vps.inside.value c.picture-picture.result.now (Ok c.in-Ok.header) stood role c.requires.peek c.in-Some.is
-    (ap (λ (x : VpsInForceValue). x.value) c.vps.view_is) c.picture-picture.ensures c.in-Ok.ensures) in
-    let unit : broken (placed_units us) (placed_behind us c.args.unit.now) ≡ None = (answer-ok us c.args.unit.now c.in_default-step.field-0 (sym (c.in_default-step.ensures.answer _ _ stood.units_are (told-segment us c.args.unit.now c.args.head false c.args.pps_id role c.requires.peek) (few-items us few)))).1 in
-    let next = (asks c.args.self.now us c.args.unit.now c.args.head c.args.pps_id c.in-Some.vps stood role c.requires.peek c.in-Some.is c.in-Ok.header header unit).1 in
-    let taken = c.in-Ok-later.ensures.takes (history_of us) (placed_behind us c.args.unit.now) (stands-here c.args.self.now us c.args.unit.now c.args.head c.args.pps_id c.in-Some.vps stood role c.requires.peek c.in-Some.is c.in-Ok.header header unit) next in
-    let later = first-here us c.args.unit.now c.args.head c.args.pps_id false role c.requires.peek in
-    tells-later _ us c.args.unit.now c.in-Some.vps c.args.self.now.decoder.picture c.args.head c.in-Ok.header (slice-here us c.args.unit.now c.args.head role) later header.header_is c.in-Some.is refl next taken.0 taken.1.open_is
-    (some-later c.in-Some.vps c.args.self.now.decoder.picture _ (history_of us) (placed_behind us c.args.unit.now) c.args.head c.in-Ok.header next (ap is_picture (sym (fact-told us c.args.unit.now)) ∙ later) taken.0 taken.1.open_is)
-    (below-later c.in-Some.vps c.args.self.now.decoder.picture _ (history_of us) (placed_behind us c.args.unit.now) c.args.head c.in-Ok.header next
-    (ap is_slice (sym (fact-told us c.args.unit.now)) ∙ slice-here us c.args.unit.now c.args.head role) (ap is_picture (sym (fact-told us c.args.unit.now)) ∙ later) taken.0 taken.1.open_is tells.below)
-    (references-over _ (history_of us) (fact_behind us c.args.unit.now) later (references-same c.args.self.now.decoder.making _ (history_of us) c.later.ensures.references tells.references))
-
 pub returns-in-Err-later-clause-takes : goal.returns-in-Err-later-clause-takes
 returns-in-Err-later-clause-takes g c = λ us stood few role.
     let header : IsHeader c.in-Ok.header (fact_behind us c.args.unit.now) = (later-reads-by c.args.self.now us c.args.unit.now c.args.head c.args.pps_id c.in-Some.vps c.vps.inside.value c.picture-picture.result.now (Ok c.in-Ok.header) stood role c.requires.peek c.in-Some.is
@@ -104,25 +81,3 @@ returns-in-Err-later-clause-view g c = λ view.
     let unit : broken (placed_units us) (placed_behind us c.args.unit.now) ≡ None = (answer-ok us c.args.unit.now c.in_default-step.field-0 (sym (c.in_default-step.ensures.answer _ _ stood.units_are (told-segment us c.args.unit.now c.args.head false c.args.pps_id role c.requires.peek) (few-items us c.requires.may.few)))).1 in
     never-view c.args.self.now us c.args.unit.now c.args.head c.args.pps_id c.in-Some.vps stood role c.requires.peek c.in-Some.is c.in-Ok.header header unit c.later.new.self c.in-Err-later.stop
     (c.in-Err-later.ensures.takes (history_of us) (placed_behind us c.args.unit.now) (stands-here c.args.self.now us c.args.unit.now c.args.head c.args.pps_id c.in-Some.vps stood role c.requires.peek c.in-Some.is c.in-Ok.header header unit) (asks c.args.self.now us c.args.unit.now c.args.head c.args.pps_id c.in-Some.vps stood role c.requires.peek c.in-Some.is c.in-Ok.header header unit).1) (let e : c.in-Err-later.stop ≡ StopValue.View = cc in e)
-
-pub returns-in_default-clause-values : goal.returns-in_default-clause-values
-returns-in_default-clause-values g c = λ us shown stood few role values. absurd (segment-needs c.args.self.now c.args.unit.now c.args.head c.requires.may c.in_default.is)
-
-pub returns-in-Err-clause-values : goal.returns-in-Err-clause-values
-returns-in-Err-clause-values g c = λ us shown stood few role values. stops-values Told (g.R.Rebuild.meaning c.args.rebuild.now) c.args.self.now c.args.self.now us c.args.unit.now c.of_read.result shown stood values
-
-pub returns-in-Err-step-clause-values : goal.returns-in-Err-step-clause-values
-returns-in-Err-step-clause-values g c = λ us shown stood few role values. stops-values Told (g.R.Rebuild.meaning c.args.rebuild.now) c.args.self.now c.args.self.now us c.args.unit.now (StopValue.Breaks c.in-Err-step.rule) shown stood values
-
-pub returns-in-Err-later-clause-values : goal.returns-in-Err-later-clause-values
-returns-in-Err-later-clause-values g c = λ us shown stood few role values. stops-values Told (g.R.Rebuild.meaning c.args.rebuild.now) c.args.self.now c.args.self.now us c.args.unit.now c.in-Err-later.stop shown stood values
-
-pub returns-in-Ok-later-clause-values : goal.returns-in-Ok-later-clause-values
-returns-in-Ok-later-clause-values g c = λ us shown stood few role values.
-    let header : IsHeader c.in-Ok.header (fact_behind us c.args.unit.now) = (later-reads-by c.args.self.now us c.args.unit.now c.args.head c.args.pps_id c.in-Some.vps c.vps.inside.value c.picture-picture.result.now (Ok c.in-Ok.header) stood role c.requires.peek c.in-Some.is
-    (ap (λ (x : VpsInForceValue). x.value) c.vps.view_is) c.picture-picture.ensures c.in-Ok.ensures) in
-    let unit : broken (placed_units us) (placed_behind us c.args.unit.now) ≡ None = (answer-ok us c.args.unit.now c.in_default-step.field-0 (sym (c.in_default-step.ensures.answer _ _ stood.units_are (told-segment us c.args.unit.now c.args.head false c.args.pps_id role c.requires.peek) (few-items us few)))).1 in
-    later-values (g.R.Rebuild.meaning c.args.rebuild.now) (record c.args.self.now { decoder = c.later.new.self }) us c.args.unit.now shown
-    (c.in-Ok-later.ensures.values (history_of us) (placed_behind us c.args.unit.now) shown (stands-here c.args.self.now us c.args.unit.now c.args.head c.args.pps_id c.in-Some.vps stood role c.requires.peek c.in-Some.is c.in-Ok.header header unit)
-    (asks c.args.self.now us c.args.unit.now c.args.head c.args.pps_id c.in-Some.vps stood role c.requires.peek c.in-Some.is c.in-Ok.header header unit).1 (its-bytes us c.args.unit.now) (regular c.args.self.now us stood)
-    (regular-here c.args.self.now us c.args.unit.now c.args.head c.args.pps_id stood role c.requires.peek c.in-Ok.header header unit) (values-here c.args.self.now us c.args.unit.now c.args.head c.args.pps_id stood role c.requires.peek (g.R.Rebuild.meaning c.args.rebuild.now) shown values))

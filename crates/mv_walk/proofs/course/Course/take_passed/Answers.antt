@@ -1,14 +1,8 @@
-use Rattle.std.proofs.Common.{sym, ◌∙◌, [], ◌∷◌, ◌++◌, None}
+use Rattle.std.proofs.Common.{sym, ◌∙◌}
 use Rattle.mv_walk.proofs.Causes as causes
 use Rattle.mv_walk.proofs.Joins.{takes-err}
 use Rattle.mv_walk.proofs.Passed.{no-slice, told-passed}
 use Rattle.mv_walk.proofs.StoodMore.{passed-unobjected, told-none}
-use Rattle.mv_walk.proofs.TellingKinds.{unread-passed}
-use Rattle.mv_walk.proofs.TellingSets.{tells-none}
-use Rattle.mv_pictures.specs.AccessUnits.{number}
-use Rattle.mv_walk_laws.specs.Streams.{item_behind, placed_units}
-use Rattle.mv_walk.proofs.ShownStops.{joins-stops}
-use Rattle.mv_walk.proofs.ShownUnits.{joined-values, same-pictures}
 use Rattle.mv_walk.proofs.course.Course.take_passed.Goals as goal
 
 pub join-requires : goal.join-requires
@@ -33,22 +27,8 @@ returns-clause-takes g c = λ us u stood few role. (
   sym (told-none us u (no-slice us u c.args.head role)),
 )
 
-pub returns-clause-tells : goal.returns-clause-tells
-returns-clause-tells g c = λ us u stood tells few role.
-    tells-none c.join.new.self c.pass.new.self us u (no-slice us u c.args.head role) (c.in_default.ensures.references us stood tells.references) (c.in_default.ensures.below tells.below) c.pass.ensures.making c.pass.ensures.picture c.pass.ensures.last (unread-passed us u c.args.head role)
-
 pub returns-clause-asked : goal.returns-clause-asked
 returns-clause-asked g c = c.pass.ensures.asked ∙ c.join.ensures.asked
 
 pub returns-clause-cause : goal.returns-clause-cause
 returns-clause-cause g c = causes.told _ _ _ _ c.join.ensures.cause (λ wrong. absurd (causes.of-done _ wrong))
-
-pub returns-in-Err-clause-values : goal.returns-in-Err-clause-values
-returns-in-Err-clause-values g c = λ us u shown stood few role values.
-    joins-stops g.V.Viewer.viewing c.args.viewer.now c.join.new.viewer (g.R.Rebuild.meaning c.args.rebuild.now) c.args.self.now.decoder.asked us u c.args.self.now c.join.new.self c.join.new.self (number (placed_units us) (item_behind us u)) c.in-Err.stop shown
-    (c.in-Err.ensures.joins us u stood few (told-passed us u c.args.head role)) (c.in-Err.ensures.values us u shown stood few (told-passed us u c.args.head role) values)
-
-pub returns-clause-values : goal.returns-clause-values
-returns-clause-values g c = λ us u shown stood few role values.
-    joined-values g.V.Viewer.viewing c.args.viewer.now c.join.new.viewer (g.R.Rebuild.meaning c.args.rebuild.now) c.args.self.now.decoder.asked c.join.new.self c.pass.new.self us u c.args.head c.in_default.field-0 None shown (told-passed us u c.args.head role)
-    (λ all v. same-pictures (g.R.Rebuild.meaning c.args.rebuild.now) c.join.new.self c.pass.new.self (us ++ u ∷ []) all c.pass.ensures.kept v) (c.in_default.ensures.values us u shown stood few (told-passed us u c.args.head role) values)

@@ -8,11 +8,6 @@ use Rattle.mv_walk.proofs.Causes as causes
 use Rattle.mv_walk.proofs.Joins.{takes-err}
 use Rattle.mv_walk.proofs.Keeping.{can-keep_pps}
 use Rattle.mv_walk.proofs.SetTakes.{pps-answers, pps-new, pps-refused, put-takes, put-unseen, told-pps}
-use Rattle.mv_walk.proofs.TellingSets.{if-both-ok, tells-pps}
-use Rattle.mv_pictures.specs.AccessUnits.{number}
-use Rattle.mv_walk_laws.specs.Streams.{item_behind, placed_units}
-use Rattle.mv_walk.proofs.ShownStops.{Told, joins-stops, none-shown}
-use Rattle.mv_walk.proofs.ShownUnits.{put-values}
 use Rattle.mv_walk.proofs.course.Course.take_pps.Goals as goal
 
 pub join-requires : goal.join-requires
@@ -32,12 +27,6 @@ returns-in-Ok-join-clause-takes g c = λ us stood few role.
     put-takes c.args.self.now.decoder.asked c.put_pps.new.self us c.args.unit.now 34 c.put_pps.result refl new.kind_is new.accepted
     (c.put_pps.ensures.puts us c.args.unit.now c.args.self.now (c.in-Ok-join.ensures.joins us c.args.unit.now stood few (told-pps us c.args.unit.now c.args.head role)).0 stood new)
     c.put_pps.ensures.none c.put_pps.ensures.memory
-
-pub returns-in-Ok-join-clause-tells : goal.returns-in-Ok-join-clause-tells
-returns-in-Ok-join-clause-tells g c = λ us stood tells few role.
-    if-both-ok c.put_pps.result (tells-pps c.join.new.self c.put_pps.new.self us c.args.unit.now c.args.head c.in-Ok.carried role
-    (pps-answers us c.args.unit.now c.args.head (Ok c.in-Ok.carried) role c.in-Ok.ensures) (c.in-Ok-join.ensures.references us stood tells.references) (c.in-Ok-join.ensures.below tells.below) c.put_pps.ensures.pictures)
-    c.put_pps.ensures.last c.put_pps.ensures.kept
 
 pub returns-in-Ok-join-clause-asked : goal.returns-in-Ok-join-clause-asked
 returns-in-Ok-join-clause-asked g c = c.put_pps.ensures.asked ∙ c.join.ensures.asked
@@ -64,17 +53,3 @@ returns-in-Err-clause-asked g c = refl
 
 pub returns-in-Err-clause-cause : goal.returns-in-Err-clause-cause
 returns-in-Err-clause-cause g c = causes.unseen _ _ (λ wrong. causes.read-unseen c.in-Err.fault (ap Err (sym c.of_read.ensures) ∙ wrong))
-
-pub returns-in-Err-clause-values : goal.returns-in-Err-clause-values
-returns-in-Err-clause-values g c = λ us shown stood few role values.
-    none-shown Told g.V.Viewer.viewing c.args.viewer.now (g.R.Rebuild.meaning c.args.rebuild.now) c.args.self.now c.args.self.now us c.args.unit.now c.of_read.result shown (λ wrong. causes.read-unseen c.in-Err.fault (ap Err (sym c.of_read.ensures) ∙ wrong)) stood values
-
-pub returns-in-Err-join-clause-values : goal.returns-in-Err-join-clause-values
-returns-in-Err-join-clause-values g c = λ us shown stood few role values.
-    joins-stops g.V.Viewer.viewing c.args.viewer.now c.join.new.viewer (g.R.Rebuild.meaning c.args.rebuild.now) c.args.self.now.decoder.asked us c.args.unit.now c.args.self.now c.join.new.self c.join.new.self (number (placed_units us) (item_behind us c.args.unit.now)) c.in-Err-join.stop shown
-    (c.in-Err-join.ensures.joins us c.args.unit.now stood few (told-pps us c.args.unit.now c.args.head role)) (c.in-Err-join.ensures.values us c.args.unit.now shown stood few (told-pps us c.args.unit.now c.args.head role) values)
-
-pub returns-in-Ok-join-clause-values : goal.returns-in-Ok-join-clause-values
-returns-in-Ok-join-clause-values g c = λ us shown stood few role values.
-    put-values g.V.Viewer.viewing c.args.viewer.now c.join.new.viewer (g.R.Rebuild.meaning c.args.rebuild.now) c.args.self.now c.join.new.self c.put_pps.new.self us c.args.unit.now c.args.head c.in-Ok-join.field-0 c.put_pps.result shown stood (told-pps us c.args.unit.now c.args.head role) c.join.ensures.asked c.put_pps.ensures.pictures c.put_pps.ensures.memory
-    (c.in-Ok-join.ensures.values us c.args.unit.now shown stood few (told-pps us c.args.unit.now c.args.head role) values)

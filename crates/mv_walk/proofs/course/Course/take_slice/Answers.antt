@@ -1,13 +1,9 @@
-use Rattle.std.proofs.Common.{sym, subst, ap, ◌∙◌}
+use Rattle.std.proofs.Common.{sym, subst}
 use Rattle.std.specs.Prelude.{Err}
 use Rattle.mv_walk.specs.Taking.{Peeks, Takes}
 use Rattle.mv_walk.specs.declared.ending.Stop.{Stop as StopValue}
-use Rattle.mv_walk.proofs.Causes as causes
 use Rattle.mv_walk.proofs.FirstTakes.{slice-kind}
 use Rattle.mv_walk.proofs.Segments.{peeks-of, unread}
-use Rattle.mv_walk.proofs.ShownMore.{gains-none}
-use Rattle.mv_walk.proofs.ShownStops.{Told, blind, none-shown}
-use Rattle.mv_walk.specs.Seen.{StepsValues, is_view}
 use Rattle.mv_walk.proofs.course.Course.take_slice.Goals as goal
 
 pub peek_unit-requires : goal.peek_unit-requires
@@ -25,12 +21,3 @@ take_first-requires-clause-peek g c =
 pub take_later-requires-clause-peek : goal.take_later-requires-clause-peek
 take_later-requires-clause-peek g c =
     subst (λ b. Peeks c.args.unit.now c.args.head b c.in-Ok.peek.pps_id) c.if-peek.false (peeks-of c.args.unit.now c.args.head c.in-Ok.peek c.in-Ok.ensures.fields)
-
-pub returns-in-Err-clause-values : goal.returns-in-Err-clause-values
-returns-in-Err-clause-values g c = λ us shown stood few role values.
-    none-shown Told g.V.Viewer.viewing c.args.viewer.now (g.R.Rebuild.meaning c.args.rebuild.now) c.args.self.now c.args.self.now us c.args.unit.now c.of_read.result shown (λ wrong. causes.read-unseen c.in-Err.fault (ap Err (sym c.of_read.ensures) ∙ wrong)) stood values
-
-pub returns-else-peek-clause-values : goal.returns-else-peek-clause-values
-returns-else-peek-clause-values g c = λ us shown stood few role values.
-    gains-none g.V.Viewer.viewing c.args.viewer.now (is_view c.take_later.result) shown (StepsValues {T = Told} (g.R.Rebuild.meaning c.args.rebuild.now) c.args.self.now.decoder.asked us c.args.unit.now c.take_later.new.self c.take_later.result) (blind c.take_later.result c.take_later.ensures.view)
-    (c.take_later.ensures.values us shown stood few role values)

@@ -11,11 +11,6 @@ use Rattle.mv_walk.proofs.Causes as causes
 use Rattle.mv_walk.proofs.Joins.{takes-err}
 use Rattle.mv_walk.proofs.Keeping.{can-keep_sps}
 use Rattle.mv_walk.proofs.SetTakes.{sps-answers, sps-new, sps-refused, put-takes, put-unseen, told-sps}
-use Rattle.mv_walk.proofs.TellingSets.{if-both-ok, tells-sps}
-use Rattle.mv_pictures.specs.AccessUnits.{number}
-use Rattle.mv_walk_laws.specs.Streams.{item_behind, placed_units}
-use Rattle.mv_walk.proofs.ShownStops.{Told, joins-stops, none-shown}
-use Rattle.mv_walk.proofs.ShownUnits.{put-values}
 use Rattle.mv_walk.proofs.course.Course.take_sps.Goals as goal
 
 pub returns-in_default-clause-takes : goal.returns-in_default-clause-takes
@@ -48,12 +43,6 @@ returns-in-Ok-join-clause-takes g c = λ us stood few role.
     (c.put_sps.ensures.puts us c.args.unit.now c.args.self.now (c.in-Ok-join.ensures.joins us c.args.unit.now stood few (told-sps us c.args.unit.now c.args.head role)).0 stood new)
     c.put_sps.ensures.none c.put_sps.ensures.memory
 
-pub returns-in-Ok-join-clause-tells : goal.returns-in-Ok-join-clause-tells
-returns-in-Ok-join-clause-tells g c = λ us stood tells few role.
-    if-both-ok c.put_sps.result (tells-sps c.join.new.self c.put_sps.new.self us c.args.unit.now c.args.head c.in-Ok.carried role
-    (sps-answers c.args.self.now us c.args.unit.now c.args.head c.in-Some.vps (Ok c.in-Ok.carried) stood role c.in-Some.is c.in-Ok.ensures) (c.in-Ok-join.ensures.references us stood tells.references) (c.in-Ok-join.ensures.below tells.below) c.put_sps.ensures.pictures)
-    c.put_sps.ensures.last c.put_sps.ensures.kept
-
 pub returns-in-Ok-join-clause-asked : goal.returns-in-Ok-join-clause-asked
 returns-in-Ok-join-clause-asked g c = c.put_sps.ensures.asked ∙ c.join.ensures.asked
 
@@ -79,20 +68,3 @@ returns-in-Err-clause-asked g c = refl
 
 pub returns-in-Err-clause-cause : goal.returns-in-Err-clause-cause
 returns-in-Err-clause-cause g c = causes.unseen _ _ (λ wrong. causes.read-unseen c.in-Err.fault (ap Err (sym c.of_read.ensures) ∙ wrong))
-
-pub returns-in-Err-clause-values : goal.returns-in-Err-clause-values
-returns-in-Err-clause-values g c = λ us shown stood few role values.
-    none-shown Told g.V.Viewer.viewing c.args.viewer.now (g.R.Rebuild.meaning c.args.rebuild.now) c.args.self.now c.args.self.now us c.args.unit.now c.of_read.result shown (λ wrong. causes.read-unseen c.in-Err.fault (ap Err (sym c.of_read.ensures) ∙ wrong)) stood values
-
-pub returns-in-Err-join-clause-values : goal.returns-in-Err-join-clause-values
-returns-in-Err-join-clause-values g c = λ us shown stood few role values.
-    joins-stops g.V.Viewer.viewing c.args.viewer.now c.join.new.viewer (g.R.Rebuild.meaning c.args.rebuild.now) c.args.self.now.decoder.asked us c.args.unit.now c.args.self.now c.join.new.self c.join.new.self (number (placed_units us) (item_behind us c.args.unit.now)) c.in-Err-join.stop shown
-    (c.in-Err-join.ensures.joins us c.args.unit.now stood few (told-sps us c.args.unit.now c.args.head role)) (c.in-Err-join.ensures.values us c.args.unit.now shown stood few (told-sps us c.args.unit.now c.args.head role) values)
-
-pub returns-in-Ok-join-clause-values : goal.returns-in-Ok-join-clause-values
-returns-in-Ok-join-clause-values g c = λ us shown stood few role values.
-    put-values g.V.Viewer.viewing c.args.viewer.now c.join.new.viewer (g.R.Rebuild.meaning c.args.rebuild.now) c.args.self.now c.join.new.self c.put_sps.new.self us c.args.unit.now c.args.head c.in-Ok-join.field-0 c.put_sps.result shown stood (told-sps us c.args.unit.now c.args.head role) c.join.ensures.asked c.put_sps.ensures.pictures c.put_sps.ensures.memory
-    (c.in-Ok-join.ensures.values us c.args.unit.now shown stood few (told-sps us c.args.unit.now c.args.head role) values)
-
-pub returns-in_default-clause-values : goal.returns-in_default-clause-values
-returns-in_default-clause-values g c = λ us shown stood few role values. absurd (set-needs c.args.self.now c.args.unit.now c.args.head c.requires.may c.in_default.is)

@@ -1,4 +1,4 @@
-use Rattle.std.proofs.Common.{refl, ap, sym, subst, ◌∙◌, [], ◌∷◌, ◌++◌}
+use Rattle.std.proofs.Common.{refl, ap, sym, subst, ◌∙◌}
 use Rattle.std.specs.Prelude.{Err, Ok}
 use Rattle.mv_walk.specs.Taking.{Takes}
 use Rattle.mv_walk.specs.declared.ending.Stop.{Stop as StopValue}
@@ -7,11 +7,6 @@ use Rattle.mv_walk.proofs.Joins.{takes-err}
 use Rattle.mv_walk.proofs.PutSets.{vps-refused, vps-takes}
 use Rattle.mv_walk.proofs.Putting.{put-asked}
 use Rattle.mv_walk.proofs.VpsTakes.{told-vps, vps-answers}
-use Rattle.mv_walk.proofs.TellingSets.{tells-vps}
-use Rattle.mv_pictures.specs.AccessUnits.{number}
-use Rattle.mv_walk_laws.specs.Streams.{item_behind, placed_units}
-use Rattle.mv_walk.proofs.ShownStops.{Told, joins-stops, none-shown}
-use Rattle.mv_walk.proofs.ShownUnits.{joined-values, put-decoder, same-decoder}
 use Rattle.mv_walk.proofs.course.Course.take_vps.Goals as goal
 
 pub returns-in-Err-clause-takes : goal.returns-in-Err-clause-takes
@@ -34,12 +29,6 @@ returns-in-Ok-join-clause-takes g c = λ us stood few role.
     (vps-answers c.args.self.now us c.args.unit.now c.args.head c.args.self.now.decoder.asked _ (Ok c.in-Ok.new) stood role c.as_ref.ensures.value c.in-Ok.ensures.takes) c.put_vps.ensures.put in
     (t.0, t.1, c.put_vps.ensures.none ∙ t.2)
 
-pub returns-in-Ok-join-clause-tells : goal.returns-in-Ok-join-clause-tells
-returns-in-Ok-join-clause-tells g c = λ us stood tells few role.
-    tells-vps c.join.new.self c.put_vps.new.self c.args.self.now.decoder.asked us c.args.unit.now c.args.head c.in-Ok.new role
-    (vps-answers c.args.self.now us c.args.unit.now c.args.head c.args.self.now.decoder.asked _ (Ok c.in-Ok.new) stood role c.as_ref.ensures.value c.in-Ok.ensures.takes)
-    (c.in-Ok-join.ensures.references us stood tells.references) (c.in-Ok-join.ensures.below tells.below) c.put_vps.ensures.last c.put_vps.ensures.pictures
-
 pub returns-in-Ok-join-clause-asked : goal.returns-in-Ok-join-clause-asked
 returns-in-Ok-join-clause-asked g c = put-asked c.in-Ok.new c.in-Ok-join.step.au c.join.new.self c.put_vps.new.self c.put_vps.ensures.put ∙ c.join.ensures.asked
 
@@ -55,18 +44,3 @@ returns-in-Err-join-clause-asked g c = c.join.ensures.asked
 
 pub returns-in-Err-join-clause-cause : goal.returns-in-Err-join-clause-cause
 returns-in-Err-join-clause-cause g c = causes.told _ _ _ _ c.join.ensures.cause (λ wrong. c.in-Err-join.is ∙ causes.same-stop c.in-Err-join.stop wrong)
-
-pub returns-in-Err-clause-values : goal.returns-in-Err-clause-values
-returns-in-Err-clause-values g c = λ us shown stood few role values.
-    none-shown Told g.V.Viewer.viewing c.args.viewer.now (g.R.Rebuild.meaning c.args.rebuild.now) c.args.self.now c.args.self.now us c.args.unit.now c.of_vps.result shown (λ wrong. causes.vps-unseen c.in-Err.fault (ap Err (sym c.of_vps.ensures) ∙ wrong)) stood values
-
-pub returns-in-Err-join-clause-values : goal.returns-in-Err-join-clause-values
-returns-in-Err-join-clause-values g c = λ us shown stood few role values.
-    joins-stops g.V.Viewer.viewing c.args.viewer.now c.join.new.viewer (g.R.Rebuild.meaning c.args.rebuild.now) c.args.self.now.decoder.asked us c.args.unit.now c.args.self.now c.join.new.self c.join.new.self (number (placed_units us) (item_behind us c.args.unit.now)) c.in-Err-join.stop shown
-    (c.in-Err-join.ensures.joins us c.args.unit.now stood few (told-vps us c.args.unit.now c.args.head role)) (c.in-Err-join.ensures.values us c.args.unit.now shown stood few (told-vps us c.args.unit.now c.args.head role) values)
-
-pub returns-in-Ok-join-clause-values : goal.returns-in-Ok-join-clause-values
-returns-in-Ok-join-clause-values g c = λ us shown stood few role values.
-    joined-values g.V.Viewer.viewing c.args.viewer.now c.join.new.viewer (g.R.Rebuild.meaning c.args.rebuild.now) c.args.self.now.decoder.asked c.join.new.self c.put_vps.new.self us c.args.unit.now c.args.head c.in-Ok-join.step c.put_vps.result shown (told-vps us c.args.unit.now c.args.head role)
-    (λ all v. same-decoder (g.R.Rebuild.meaning c.args.rebuild.now) c.join.new.self c.put_vps.new.self (us ++ c.args.unit.now ∷ []) all (put-decoder c.in-Ok.new c.in-Ok-join.step.au c.join.new.self c.put_vps.new.self c.put_vps.ensures.put) v)
-    (c.in-Ok-join.ensures.values us c.args.unit.now shown stood few (told-vps us c.args.unit.now c.args.head role) values)

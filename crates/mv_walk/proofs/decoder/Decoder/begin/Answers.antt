@@ -1,9 +1,6 @@
-use Rattle.std.proofs.Common.{SFits, refl, ap, arith, rules, w32, to_z-of_z, ◌∙◌, ◌≡◌, Bool, ◌&&◌}
-use Rattle.mv_walk.proofs.Begun.{layers-begun, within-here, made-of, puts-both, puts-none}
-use Rattle.mv_walk.specs.Telling.{begun_pairs}
-use Rattle.mv_walk_order.specs.OrderSteps.{puts_out}
+use Rattle.std.proofs.Common.{SFits, refl, ap, arith, rules, w32, to_z-of_z}
+use Rattle.mv_walk.proofs.Begun.{layers-begun, within-here}
 use Rattle.mv_walk.proofs.decoder.Decoder.begin.Goals as goal
-use Rattle.mv_walk.proofs.decoder.Decoder.begin.Goals.{then-decided, else-decided}
 
 pub begin-requires-clause-all : goal.begin-requires-clause-all
 begin-requires-clause-all g c = rw c.deref.ensures.value c.requires.all
@@ -50,12 +47,7 @@ returns-clause-told g c =
     rw (to_z-of_z fits) refl
 
 pub returns-clause-making : goal.returns-clause-making
-returns-clause-making g c = c.in-Ok.ensures.made
-
-pub returns-clause-references : goal.returns-clause-references
-returns-clause-references g c =
-    c.in-Ok.ensures.references
-    ∙ ap (λ layers. begun_pairs layers c.args.segment.now.head.layer c.args.decided.resolved c.args.decided.inter_layer.zero c.args.decided.inter_layer.one) c.deref.ensures.value
+returns-clause-making g c = c.in-Ok.ensures
 
 pub returns-clause-made : goal.returns-clause-made
 returns-clause-made g c = refl
@@ -70,15 +62,3 @@ returns-clause-layers g c =
 
 pub returns-clause-rest : goal.returns-clause-rest
 returns-clause-rest g c = refl
-
-pub returns-clause-values : goal.returns-clause-values
-returns-clause-values g c =
-    let puts : Bool = puts_out c.args.self.now.order.sets c.args.self.now.asked c.args.segment.now.head.layer in
-    let out : c.if-decided.output ≡ (c.args.decided.put_out && puts) =
-    elim c.if-decided.branch [
-      | then-decided w ↦
-          puts-both c.args.decided.put_out puts c.if-decided.output w.if-decided.true
-          (w.output-is ∙ w.puts_out-output.ensures ∙ ap (puts_out c.args.self.now.order.sets c.args.self.now.asked) (ap (λ h. h.layer) (ap (λ s. s.head) c.segment.view_is)))
-      | else-decided w ↦ puts-none c.args.decided.put_out puts c.if-decided.output w.if-decided.false w.output-is
-    ] in
-    made-of (g.R.Rebuild.meaning c.args.rebuild.now) c.args.vps.now c.args.segment.now c.args.decided c.args.unit.now _ _ _ _ _ _ c.in-Ok.making c.saturating_sub-sequence.ensures out c.deref.ensures.value c.in-Ok.ensures.values

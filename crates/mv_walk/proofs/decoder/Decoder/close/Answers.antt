@@ -1,6 +1,5 @@
-use Rattle.std.proofs.Common.{◌∙◌, None, Some, sym}
+use Rattle.std.proofs.Common.{◌∙◌, sym}
 use Rattle.mv_walk.proofs.Closing.{closes-finished, closes-none, history-taken}
-use Rattle.mv_walk.proofs.ShownWhole.{values-beside}
 use Rattle.mv_walk.proofs.decoder.Decoder.close.Goals as goal
 
 pub finish-requires : goal.finish-requires
@@ -13,12 +12,3 @@ returns-in-Some-clause-closes g c =
 
 pub returns-in-None-clause-closes : goal.returns-in-None-clause-closes
 returns-in-None-clause-closes g c = closes-none c.args.self.now c.take.new.self (sym c.take.ensures.value ∙ c.in-None.is) c.take.ensures.after
-
-pub returns-in-Some-clause-values : goal.returns-in-Some-clause-values
-returns-in-Some-clause-values g c = λ past whole unit shown regular values.
-    c.finish.ensures.values past whole unit shown regular
-    (values-beside (g.R.Rebuild.meaning c.args.rebuild.now) c.args.self.now c.take.new.self (Some c.in-Some.making) past whole unit shown (sym c.take.ensures.value ∙ c.in-Some.is) values)
-
-pub returns-in-None-clause-values : goal.returns-in-None-clause-values
-returns-in-None-clause-values g c = λ past whole unit shown regular values.
-    values-beside (g.R.Rebuild.meaning c.args.rebuild.now) c.args.self.now c.take.new.self None past whole unit shown (sym c.take.ensures.value ∙ c.in-None.is) values

@@ -1,7 +1,5 @@
 use Rattle.std.proofs.Common.{SFits, refl, ap, rules, w32, to_z-of_z}
 use Rattle.mv_walk.proofs.Deciding.{asked-of, begun, decided-ok, refused, stays-within}
-use Rattle.mv_walk.proofs.TellingDecoded.{decoded-references}
-use Rattle.mv_walk.proofs.ShownBegun.{begins-values}
 use Rattle.mv_walk.proofs.decoder.Decoder.decode.Goals as goal
 
 pub returns-in-Err-clause-decodes : goal.returns-in-Err-clause-decodes
@@ -43,18 +41,3 @@ returns-clause-decodes g c = λ past p r f i.
     (ap (λ s. s.served.active) c.segment.view_is) (ap (λ s. s.head) c.segment.view_is) c.context-ctx.ensures.value (ap (λ s. s.header) c.segment.view_is) c.place-place.ensures))
     c.in-Ok.is c.as_mut_slice.ensures.value c.as_mut_slice.ensures.len c.keep_count.ensures (ap (λ h. h.layer) (ap (λ s. s.head) c.segment.view_is)) (to_z-of_z fits) c.begin.ensures.told c.begin.ensures.making c.begin.ensures.made c.begin.ensures.pictures c.begin.ensures.layers
     c.begin.ensures.rest c.begin.ensures.memory
-
-pub returns-clause-references : goal.returns-clause-references
-returns-clause-references g c = λ past p r f i orderly.
-    decoded-references c.args.self.now c.keep_count.new.self c.begin.new.self.making _ _ _ _ c.args.vps.now c.args.segment.now c.args.start past p c.in-Ok.decided c.decide.result c.begin.result r f i orderly c.requires.can.layer c.requires.read
-    (c.decide.ensures past p (asked-of _ c.args.self.now c.args.vps.now c.args.segment.now c.args.start past p r f i c.as_mut_slice.ensures.value refl (ap (λ v. v.value) c.vps.view_is)
-    (ap (λ s. s.served.active) c.segment.view_is) (ap (λ s. s.head) c.segment.view_is) c.context-ctx.ensures.value (ap (λ s. s.header) c.segment.view_is) c.place-place.ensures))
-    c.in-Ok.is c.as_mut_slice.ensures.value c.as_mut_slice.ensures.len c.keep_count.ensures c.begin.ensures.references
-
-pub returns-clause-values : goal.returns-clause-values
-returns-clause-values g c = λ past p shown r f i next ready.
-    begins-values (g.R.Rebuild.meaning c.args.rebuild.now) c.args.self.now c.keep_count.new.self c.begin.new.self _ _ _ _ c.args.vps.now c.args.segment.now c.args.start past p c.in-Ok.decided c.decide.result c.args.unit.now shown c.begin.result
-    r f i c.requires.can.layer c.requires.read next ready
-    (c.decide.ensures past p (asked-of _ c.args.self.now c.args.vps.now c.args.segment.now c.args.start past p r f i c.as_mut_slice.ensures.value refl (ap (λ v. v.value) c.vps.view_is)
-    (ap (λ s. s.served.active) c.segment.view_is) (ap (λ s. s.head) c.segment.view_is) c.context-ctx.ensures.value (ap (λ s. s.header) c.segment.view_is) c.place-place.ensures))
-    c.in-Ok.is c.as_mut_slice.ensures.value c.as_mut_slice.ensures.len c.keep_count.ensures c.begin.ensures.made c.begin.ensures.layers c.begin.ensures.values c.begin.ensures.rest

@@ -1,20 +1,9 @@
-use Rattle.std.proofs.Common.{ℤ, false, Option, None, Some, ap, sym, subst, ◌∙◌, ◌∷◌}
-use Rattle.std.specs.Prelude.{⊤, Ok, Err}
+use Rattle.std.proofs.Common.{None, ap, sym, subst, ◌∙◌, ◌∷◌}
 use Rattle.mv_pictures.specs.History.{judged}
-use Rattle.mv_pictures.specs.Judged.{au}
 use Rattle.mv_au.specs.States as states
-use Rattle.mv_au.specs.declared.states.PicState.{PicState}
-use Rattle.mv_walk_segment.specs.OpenValue.{DecodedValue}
-use Rattle.mv_walk.specs.Seen.{Gains, TakesValues, is_view}
-use Rattle.mv_walk.specs.Shown.{AreValues}
 use Rattle.mv_walk.proofs.Answered.{first-refused, first-stateless, first-unclosed, making-but_states, pictures-but_states, state-unseen}
 use Rattle.mv_walk.proofs.Causes.{behind, of-done, same-stop, told}
-use Rattle.mv_walk.proofs.Opening.{first-taken, opened}
-use Rattle.mv_walk.proofs.TellingMore.{references-here}
-use Rattle.mv_walk.proofs.ShownMore.{gains-both}
-use Rattle.mv_walk.proofs.ShownOpened.{asked-but_states, comes-but_states, gains-opened, gains-stateless, values-but_states}
-use Rattle.mv_walk.proofs.ShownRefused.{gains-picture, gains-ready}
-use Rattle.mv_walk.proofs.Tried.{picture-taken}
+use Rattle.mv_walk.proofs.Opening.{first-taken}
 use Rattle.mv_walk.proofs.decoder.Decoder.first.Goals as goal
 
 pub before_picture-requires : goal.before_picture-requires
@@ -74,14 +63,6 @@ returns-in-Ok-taken-clause-takes g c = rw c.new.ensures (λ past p k f.
     first-taken _ c.args.vps.now c.args.segment past p _ (c.in-Ok-taken.count, c.in-Ok-taken.decoded) f c.requires.can.serving t.0 t.1
     (subst (λ s. states.Stands s (judged past p ∷ past)) (sym c.in-Ok-taken.ensures.states) t.2) u)
 
-pub returns-in-Ok-taken-clause-references : goal.returns-in-Ok-taken-clause-references
-returns-in-Ok-taken-clause-references g c = λ past p k f orderly.
-    let b = c.in_default.ensures.closes past k in
-    let t = c.in-Ok.ensures.takes past p b.keeps f in
-    let kept = pictures-but_states _ _ past None c.in-Ok.ensures.rest b.keeps.pictures in
-    let none = making-but_states c.before_picture.new.self c.state.new.self c.in-Ok.ensures.rest b.none_made in
-    references-here c.taken.new.self.making past p f.picture (c.in-Ok-taken.ensures.references past p kept f t.1 none orderly)
-
 pub returns-in-Ok-taken-clause-asked : goal.returns-in-Ok-taken-clause-asked
 returns-in-Ok-taken-clause-asked g c = c.in-Ok-taken.ensures.asked ∙ ap (λ d. d.asked) c.in-Ok.ensures.rest ∙ c.in_default.ensures.asked
 
@@ -102,50 +83,3 @@ returns-in-Err-taken-clause-asked g c = c.in-Err-taken.ensures.asked ∙ ap (λ 
 pub returns-in-Err-taken-clause-cause : goal.returns-in-Err-taken-clause-cause
 returns-in-Err-taken-clause-cause g c =
     told _ _ _ _ (behind _ _ _ _ c.in_default.ensures.cause.never_falls c.in-Err-taken.ensures.cause) (same-stop c.in-Err-taken.stop)
-
-pub returns-in-Err-clause-values : goal.returns-in-Err-clause-values
-returns-in-Err-clause-values g c = λ past p now shown k f comes next values.
-    gains-ready ⊤ (PicState × Option ℤ) g.V.Viewer.viewing c.args.viewer.now c.before_picture.new.viewer (g.R.Rebuild.meaning c.args.rebuild.now) c.args.self.now.asked past p (au p) c.before_picture.new.self c.before_picture.new.self c.in-Err.stop shown c.in-Err.ensures.breaks
-    (c.in-Err.ensures.values past now (au p) shown comes.regular next values)
-
-pub returns-in-Err-state-clause-values : goal.returns-in-Err-state-clause-values
-returns-in-Err-state-clause-values g c = λ past p now shown k f comes next values.
-    gains-stateless (PicState × Option ℤ) g.V.Viewer.viewing c.args.viewer.now c.before_picture.new.viewer (g.R.Rebuild.meaning c.args.rebuild.now) c.args.self.now.asked c.args.vps.now c.args.segment c.args.unit.now past p c.before_picture.new.self c.state.new.self c.state.new.self c.in-Err-state.stop shown f comes c.in_default.ensures.asked
-    (c.in-Err-state.ensures.takes past p (c.in_default.ensures.closes past k).keeps f) (c.in_default.ensures.values past now (au p) shown comes.regular next values)
-
-pub returns-in-Ok-taken-clause-values : goal.returns-in-Ok-taken-clause-values
-returns-in-Ok-taken-clause-values g c = rw c.new.ensures (λ past p now shown k f comes next values.
-    let b = c.in_default.ensures.closes past k in
-    let t = c.in-Ok.ensures.takes past p b.keeps f in
-    let kept = pictures-but_states _ _ past None c.in-Ok.ensures.rest b.keeps.pictures in
-    let none = making-but_states c.before_picture.new.self c.state.new.self c.in-Ok.ensures.rest b.none_made in
-    let u = c.in-Ok-taken.ensures.takes past p kept f t.1 none in
-    gains-both g.V.Viewer.viewing c.args.viewer.now c.before_picture.new.viewer c.taken.new.viewer false shown (AreValues (g.R.Rebuild.meaning c.args.rebuild.now) past (au p) (au p) c.before_picture.new.self c.before_picture.new.self.making)
-    (TakesValues {T = PicState × Option ℤ} (g.R.Rebuild.meaning c.args.rebuild.now) c.args.self.now.asked past p (record c.taken.new.self { picture = Some (opened c.args.segment c.in-Ok-taken.decoded) }) (Ok (c.in-Ok.state, c.in-Ok-taken.count)))
-    (c.in_default.ensures.values past now (au p) shown comes.regular next values)
-    (λ all before.
-    gains-opened (Option ℤ × Option DecodedValue) (PicState × Option ℤ) g.V.Viewer.viewing c.before_picture.new.viewer c.taken.new.viewer (g.R.Rebuild.meaning c.args.rebuild.now) c.args.self.now.asked c.state.new.self.asked past p c.taken.new.self (Some (opened c.args.segment c.in-Ok-taken.decoded)) (c.in-Ok-taken.count, c.in-Ok-taken.decoded)
-    (c.in-Ok.state, c.in-Ok-taken.count) all (picture-taken past p t.0 ∙ u.0)
-    (c.in-Ok-taken.ensures.values past p all kept f t.1 none (comes-but_states c.before_picture.new.self c.state.new.self c.in-Ok.ensures.rest c.args.self.now.asked past p c.args.unit.now c.in_default.ensures.asked comes)
-    (values-but_states c.before_picture.new.self c.state.new.self c.in-Ok.ensures.rest (g.R.Rebuild.meaning c.args.rebuild.now) past (au p) all b.none_made before))))
-
-pub returns-in-Ok-taken-clause-same : goal.returns-in-Ok-taken-clause-same
-returns-in-Ok-taken-clause-same g c = c.in-Ok-taken.ensures.same ∙ c.in_default.ensures.same
-
-pub returns-in-Err-taken-clause-values : goal.returns-in-Err-taken-clause-values
-returns-in-Err-taken-clause-values g c = λ past p now shown k f comes next values.
-    let b = c.in_default.ensures.closes past k in
-    let t = c.in-Ok.ensures.takes past p b.keeps f in
-    let kept = pictures-but_states _ _ past None c.in-Ok.ensures.rest b.keeps.pictures in
-    let none = making-but_states c.before_picture.new.self c.state.new.self c.in-Ok.ensures.rest b.none_made in
-    let asked = asked-but_states c.before_picture.new.self c.state.new.self c.in-Ok.ensures.rest c.args.self.now.asked c.in_default.ensures.asked in
-    gains-both g.V.Viewer.viewing c.args.viewer.now c.before_picture.new.viewer c.taken.new.viewer (is_view {T = PicState × Option ℤ} (Err c.in-Err-taken.stop)) shown (AreValues (g.R.Rebuild.meaning c.args.rebuild.now) past (au p) (au p) c.before_picture.new.self c.before_picture.new.self.making)
-    (TakesValues {T = PicState × Option ℤ} (g.R.Rebuild.meaning c.args.rebuild.now) c.args.self.now.asked past p c.taken.new.self (Err c.in-Err-taken.stop)) (c.in_default.ensures.values past now (au p) shown comes.regular next values)
-    (λ all before.
-    subst (λ o. Gains g.V.Viewer.viewing c.before_picture.new.viewer c.taken.new.viewer (is_view {T = PicState × Option ℤ} (Err c.in-Err-taken.stop)) all (TakesValues {T = PicState × Option ℤ} (g.R.Rebuild.meaning c.args.rebuild.now) o past p c.taken.new.self (Err c.in-Err-taken.stop))) asked
-    (gains-picture (Option ℤ × Option DecodedValue) (PicState × Option ℤ) g.V.Viewer.viewing c.before_picture.new.viewer c.taken.new.viewer (g.R.Rebuild.meaning c.args.rebuild.now) c.state.new.self.asked past p c.taken.new.self c.taken.new.self c.in-Err-taken.stop all
-    (c.in-Err-taken.ensures.values past p all kept f t.1 none (comes-but_states c.before_picture.new.self c.state.new.self c.in-Ok.ensures.rest c.args.self.now.asked past p c.args.unit.now c.in_default.ensures.asked comes)
-    (values-but_states c.before_picture.new.self c.state.new.self c.in-Ok.ensures.rest (g.R.Rebuild.meaning c.args.rebuild.now) past (au p) all b.none_made before))))
-
-pub returns-in-Err-taken-clause-same : goal.returns-in-Err-taken-clause-same
-returns-in-Err-taken-clause-same g c = c.in-Err-taken.ensures.same ∙ c.in_default.ensures.same

@@ -1,25 +1,15 @@
-use Rattle.std.proofs.Common.{◌<◌, length, false, refl, ap, ◌∙◌, arith}
+use Rattle.std.proofs.Common.{false, refl, ap, ◌∙◌, arith}
 use Rattle.std.proofs.lemmas.Bool.{eq-eqb, ne_eqb}
 use Rattle.mv_walk.specs.Firsts.{place}
 use Rattle.mv_walk_decoded.specs.Asked.{asked_by}
 use Rattle.mv_walk.proofs.Becoming.{unchanged-unseen}
 use Rattle.mv_walk.proofs.Causes.{of-done}
-use Rattle.mv_walk.proofs.ShownSkipped.{counted-held}
 use Rattle.mv_walk.proofs.SkippedBase.{base-answered}
 use Rattle.mv_walk.proofs.Skipping.{upper-takes}
 use Rattle.mv_walk.proofs.decoder.Decoder.skip.Goals as goal
 
 pub returns-then-segment-ne0-clause-takes : goal.returns-then-segment-ne0-clause-takes
 returns-then-segment-ne0-clause-takes g c = λ past p k f skipped making. upper-takes c.args.self.now c.args.vps.now c.args.segment.now past p k f skipped (ne_eqb c.args.segment.now.head.layer 0 c.if-segment-ne0.true) making
-
-pub returns-then-segment-ne0-clause-making : goal.returns-then-segment-ne0-clause-making
-returns-then-segment-ne0-clause-making g c = refl
-
-pub returns-then-segment-ne0-clause-rest : goal.returns-then-segment-ne0-clause-rest
-returns-then-segment-ne0-clause-rest g c = refl
-
-pub returns-then-segment-ne0-clause-held : goal.returns-then-segment-ne0-clause-held
-returns-then-segment-ne0-clause-held g c = λ n. refl
 
 pub returns-then-segment-ne0-clause-states : goal.returns-then-segment-ne0-clause-states
 returns-then-segment-ne0-clause-states g c = refl
@@ -53,17 +43,6 @@ returns-clause-takes g c = rw (← c.vps.view_is) (rw c.unchanged.ensures (λ pa
     base-answered c.args.self.now _ c.args.segment.now past p c.count_asked-asked.result c.index_mut.result.now c.count.new.self c.count.result _ k f skipped (eq-eqb c.args.segment.now.head.layer 0 c.if-segment-ne0.false) making
     (c.count_asked-asked.ensures.is ∙ ap (λ x. asked_by x c.context-ctx.result c.args.segment.now.header) c.place.ensures ∙ ap (λ x. asked_by (place c.args.self.now.base_count c.args.segment.now false) x c.args.segment.now.header) c.context-ctx.ensures.value)
     c.index_mut.ensures.value c.count.ensures.count c.count.ensures.anchor c.ok-count.ensures.value))
-
-pub returns-clause-making : goal.returns-clause-making
-returns-clause-making g c = refl
-
-pub returns-clause-rest : goal.returns-clause-rest
-returns-clause-rest g c = refl
-
-pub returns-clause-held : goal.returns-clause-held
-returns-clause-held g c =
-    let low : 0 < length c.args.self.now.layers.items = omega (arith, c.requires.kept) in
-    counted-held c.args.self.now.layers.items 0 c.count_asked-asked.result c.index_mut.result.now c.count.new.self low c.index_mut.ensures.value c.count.ensures.anchor
 
 pub returns-clause-states : goal.returns-clause-states
 returns-clause-states g c = refl

@@ -1,19 +1,9 @@
-use Rattle.std.proofs.Common.{◌≡◌, ℤ, Option, None, sym, ◌∙◌}
-use Rattle.std.specs.Prelude.{Err}
+use Rattle.std.proofs.Common.{sym, ◌∙◌}
 use Rattle.mv_pictures.specs.Look.{look}
-use Rattle.mv_walk_segment.specs.OpenValue.{DecodedValue}
-use Rattle.mv_walk_laws.specs.Rest.{picture_rule}
-use Rattle.mv_walk.specs.Firsts.{unchanged}
-use Rattle.mv_walk.specs.Seen.{BeginsValues}
 use Rattle.mv_walk.proofs.Becoming.{decoded-refused, decoded-takes, state-decoded, state-skipped, state-start, unchanged-unseen}
 use Rattle.mv_walk.proofs.Beginning.{ready-goes}
 use Rattle.mv_walk.proofs.Causes.{unseen}
 use Rattle.mv_walk.proofs.Decoded.{no-sequence}
-use Rattle.mv_pictures.specs.History.{judged}
-use Rattle.mv_walk.proofs.TellingMore.{made-none, made-whatever}
-use Rattle.mv_walk.proofs.ShownDecoded.{goes-ready, goes-takes, unchanged-begins}
-use Rattle.mv_walk.proofs.ShownRefused.{gains-still}
-use Rattle.mv_walk.proofs.ShownSkipped.{skipped-takes}
 use Rattle.mv_walk.proofs.decoder.Decoder.taken.Goals as goal
 
 pub skip-requires-clause-kept : goal.skip-requires-clause-kept
@@ -57,9 +47,6 @@ start-requires-clause-unit g c = c.requires.unit
 pub returns-in-Skipped-clause-takes : goal.returns-in-Skipped-clause-takes
 returns-in-Skipped-clause-takes g c = λ past p k f state making. c.skip.ensures.takes past p k f (state-skipped (look past p) p (sym c.in-Skipped.is ∙ state)) making
 
-pub returns-in-Skipped-clause-references : goal.returns-in-Skipped-clause-references
-returns-in-Skipped-clause-references g c = λ past p k f state making orderly. made-none c.skip.result c.skip.new.self.making (judged past p) (c.skip.ensures.making ∙ making)
-
 pub returns-in-Skipped-clause-states : goal.returns-in-Skipped-clause-states
 returns-in-Skipped-clause-states g c = c.skip.ensures.states
 
@@ -74,11 +61,6 @@ returns-in-Ok-clause-takes g c = rw c.unchanged.ensures (λ past p k f state mak
     let d = state-decoded past p f.picture (sym c.in-Decoded.is ∙ state) in
     decoded-takes _ c.args.vps.now c.args.segment.now past p c.in-Ok.taken f d
     (c.in-Ok.ensures.decodes past p (ready-goes c.args.self.now past p k f.picture (no-sequence past p d.start_is)) f d))
-
-pub returns-in-Ok-clause-references : goal.returns-in-Ok-clause-references
-returns-in-Ok-clause-references g c = λ past p k f state making orderly.
-    let d = state-decoded past p f.picture (sym c.in-Decoded.is ∙ state) in
-    made-whatever c.unchanged.result c.decode.new.self.making (judged past p) (c.in-Ok.ensures.references past p (ready-goes c.args.self.now past p k f.picture (no-sequence past p d.start_is)) f d orderly)
 
 pub returns-in-Ok-clause-states : goal.returns-in-Ok-clause-states
 returns-in-Ok-clause-states g c = c.in-Ok.ensures.states
@@ -107,9 +89,6 @@ returns-in-Err-clause-cause g c = unseen _ _ c.in-Err.ensures.breaks
 pub returns-in-Start-clause-takes : goal.returns-in-Start-clause-takes
 returns-in-Start-clause-takes g c = λ past p k f state making. c.start.ensures.takes past p k f (state-start (look past p) p (sym c.in-Start.is ∙ state))
 
-pub returns-in-Start-clause-references : goal.returns-in-Start-clause-references
-returns-in-Start-clause-references g c = λ past p k f state making orderly. c.start.ensures.references past p k f (state-start (look past p) p (sym c.in-Start.is ∙ state)) orderly
-
 pub returns-in-Start-clause-states : goal.returns-in-Start-clause-states
 returns-in-Start-clause-states g c = c.start.ensures.states
 
@@ -118,27 +97,3 @@ returns-in-Start-clause-asked g c = c.start.ensures.asked
 
 pub returns-in-Start-clause-cause : goal.returns-in-Start-clause-cause
 returns-in-Start-clause-cause g c = c.start.ensures.cause
-
-pub returns-in-Skipped-clause-values : goal.returns-in-Skipped-clause-values
-returns-in-Skipped-clause-values g c = λ past p shown k f state making comes values.
-    gains-still g.V.Viewer.viewing c.args.viewer.now (g.R.Rebuild.meaning c.args.rebuild.now) c.args.self.now.asked past p c.skip.new.self c.skip.result shown c.skip.ensures.breaks
-    (skipped-takes (g.R.Rebuild.meaning c.args.rebuild.now) c.args.self.now c.skip.new.self c.args.vps.now c.args.segment.now c.args.unit.now c.skip.result past p shown f (state-skipped (look past p) p (sym c.in-Skipped.is ∙ state)) making comes c.skip.ensures.rest c.skip.ensures.held values)
-
-pub returns-in-Ok-clause-values : goal.returns-in-Ok-clause-values
-returns-in-Ok-clause-values g c = rw c.unchanged.ensures (λ past p shown k f state making comes values.
-    let d = state-decoded past p f.picture (sym c.in-Decoded.is ∙ state) in
-    let none = no-sequence past p d.start_is in
-    let ready = goes-ready (g.R.Rebuild.meaning c.args.rebuild.now) c.args.self.now c.args.vps.now c.args.segment.now past p shown f none values c.requires.can k in
-    gains-still g.V.Viewer.viewing c.args.viewer.now (g.R.Rebuild.meaning c.args.rebuild.now) c.args.self.now.asked past p c.decode.new.self (unchanged c.args.segment.now c.in-Ok.taken) shown (unchanged-unseen c.args.segment.now c.in-Ok.taken)
-    (goes-takes (g.R.Rebuild.meaning c.args.rebuild.now) c.args.self.now c.args.vps.now c.args.segment.now past p shown f none values c.args.unit.now c.decode.new.self (unchanged c.args.segment.now c.in-Ok.taken) comes c.in-Ok.ensures.asked c.in-Ok.ensures.queue
-    (unchanged-begins c.args.segment.now c.in-Ok.taken (picture_rule past p ≡ None → BeginsValues (g.R.Rebuild.meaning c.args.rebuild.now) past p c.decode.new.self shown) (c.in-Ok.ensures.values past p shown (ready-goes c.args.self.now past p k f.picture none) f d comes ready))))
-
-pub returns-in-Err-clause-values : goal.returns-in-Err-clause-values
-returns-in-Err-clause-values g c = λ past p shown k f state making comes values.
-    let d = state-decoded past p f.picture (sym c.in-Decoded.is ∙ state) in
-    let none = no-sequence past p d.start_is in
-    gains-still {T = Option ℤ × Option DecodedValue} g.V.Viewer.viewing c.args.viewer.now (g.R.Rebuild.meaning c.args.rebuild.now) c.args.self.now.asked past p c.decode.new.self (Err c.in-Err.stop) shown c.in-Err.ensures.breaks
-    (goes-takes (g.R.Rebuild.meaning c.args.rebuild.now) c.args.self.now c.args.vps.now c.args.segment.now past p shown f none values {T = Option ℤ × Option DecodedValue} c.args.unit.now c.decode.new.self (Err c.in-Err.stop) comes c.in-Err.ensures.asked c.in-Err.ensures.queue tt)
-
-pub returns-in-Start-clause-values : goal.returns-in-Start-clause-values
-returns-in-Start-clause-values g c = λ past p shown k f state making comes values. c.start.ensures.values past p shown k f (state-start (look past p) p (sym c.in-Start.is ∙ state)) comes values

@@ -12,8 +12,4 @@ returns-clause-stands g c = record {
     asked_is = c.in_ok-course.ensures.asked;
     stood = c.in_ok-course.ensures.stood;
   };
-  tells = c.in_ok-course.ensures.tells;
 }
-
-pub returns-clause-shows : goal.returns-clause-shows
-returns-clause-shows g c = c.in_ok-course.ensures.values

@@ -1,4 +1,0 @@
-pub mod Shower
-pub mod Text
-pub mod UnitText
-pub mod Walked
