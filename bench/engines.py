@@ -5,7 +5,7 @@ Streams: the stream of two views again and again, its slice data filled up to la
 small ones (90 bytes), with four-byte start codes; `unpack` is given the same units in the length-prefixed form. For each command and stream it prints MB/s and the ratio to
 `cat`, to nothing and to a pipe, the best of some runs; with --gigabyte the memory that each command takes at most on a
 stream of a gigabyte, and whether `pack | unpack` gives a gigabyte of framed units back, for which it ends with 1 where it
-doesn't. Aims: 0.4 of `cat` for `check` and 0.35 for the others to nothing on large units; 600,000 units a second for `check`
+doesn't; and where an `ffmpeg` is on the PATH, what its copy of the same stream takes beside `extract`. Aims: 0.4 of `cat` for `check` and 0.35 for the others to nothing on large units; 600,000 units a second for `check`
 and 400 MB/s for `pack` and `unpack` on small ones.
 
 usage: bench/engines.py [--size MB] [--runs N] [--gigabyte] [COMMAND..]
@@ -14,6 +14,7 @@ import argparse
 import os
 import random
 import re
+import shutil
 import subprocess
 import sys
 import tempfile
@@ -23,6 +24,7 @@ HERE = os.path.dirname(os.path.dirname(os.path.abspath(__file__)))
 BUILD = os.path.join(HERE, "crates", "mv_cli", "out", "mv_cli")
 PROGRAM = BUILD if os.path.exists(BUILD) else os.path.join(HERE, "dist", "mv_cli")
 COMMANDS = {"extract": ("extract", "1"), "check": ("check",), "pack": ("pack",), "unpack": ("unpack",)}
+COPY = ("-v", "error", "-f", "hevc", "-i", "pipe:0", "-c", "copy", "-f", "hevc", "pipe:1")
 KINDS = (("large", 900_000), ("middle", 250_000), ("small", 90))
 
 
@@ -96,6 +98,9 @@ def measure(command, path, asked):
             ours = min(seconds(words, path, to_pipe) for _ in range(asked.runs))
             cat = min(seconds(["cat"], path, to_pipe) for _ in range(asked.runs))
             print(f"{command:8}{name:7} to {where:8} {total / ours / 1e6:8.0f} MB/s   {cat / ours:5.2f} of cat {count / ours:12,.0f} units/s", flush=True)
+        if command == "extract" and shutil.which("ffmpeg"):
+            ours, peer = (min(seconds(one, path, False) for _ in range(2)) for one in (words, ["ffmpeg", *COPY]))
+            print(f"{'ffmpeg':8}{name:7} to nothing  {total / peer / 1e6:8.0f} MB/s   {command} is {peer / ours:.1f} times as fast", flush=True)
     if asked.gigabyte:
         stream(path, 900_000, 1_000_000_000, command)
         most = most_memory(words, path)
@@ -139,4 +144,5 @@ def main():
             sys.exit(1)
 
 
-main()
+if __name__ == "__main__":
+    main()

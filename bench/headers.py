@@ -246,10 +246,10 @@ def hrd_sub_layers(b, subs, cpbs):
             b.ue(0).ue(0).u(1, 0)
 
 
-def sps_front(b, subs=0):
+def sps_front(b, subs=0, number=0):
     b.u(4, 0).u(3, subs).u(1, 1)
     profile(b, subs)
-    b.ue(0).ue(1).ue(64).ue(64).u(1, 0).ue(0).ue(0).ue(4)
+    b.ue(number).ue(1).ue(64).ue(64).u(1, 0).ue(0).ue(0).ue(4)
     b.u(1, 1)
     for _ in range(subs + 1):
         b.ue(3).ue(2).ue(0)
@@ -274,18 +274,18 @@ def sps_end(b, extension=False):
         b.u(8, 1)
 
 
-def sps_tail():
+def sps_tail(number=0):
     b = Bits()
-    sps_front(b)
+    sps_front(b, number=number)
     b.u(1, 0).u(1, 0).u(1, 0).u(1, 0).ue(0)
     sps_end(b, extension=True)
     return b.with_tail()
 
 
-def sps_sets():
+def sps_sets(number=0):
     """64 short-term sets of 16 pictures: the first spelled out, each other predicted from the one before."""
     b = Bits()
-    sps_front(b)
+    sps_front(b, number=number)
     b.u(1, 0).u(1, 0).u(1, 0).u(1, 0).ue(64)
     b.ue(8).ue(8)
     for _ in range(16):
@@ -298,9 +298,9 @@ def sps_sets():
     return b.payload()
 
 
-def sps_lists():
+def sps_lists(number=0):
     b = Bits()
-    sps_front(b)
+    sps_front(b, number=number)
     b.u(1, 1).u(1, 1)
     scaling_lists(b)
     b.u(1, 0).u(1, 0).u(1, 0).ue(0)
@@ -308,17 +308,17 @@ def sps_lists():
     return b.payload()
 
 
-def pps_tail():
+def pps_tail(number=0):
     b = Bits()
-    b.ue(0).ue(0).u(1, 0).u(1, 0).u(3, 0).u(1, 0).u(1, 0).ue(0).ue(0).se(0).u(3, 0).se(0).se(0).u(6, 0).u(2, 0)
+    b.ue(number).ue(0).u(1, 0).u(1, 0).u(3, 0).u(1, 0).u(1, 0).ue(0).ue(0).se(0).u(3, 0).se(0).se(0).u(6, 0).u(2, 0)
     b.u(1, 0).u(1, 0).ue(0).u(1, 0).u(1, 1).u(8, 1)
     return b.with_tail()
 
 
-def pps_tiles():
+def pps_tiles(number=0):
     """All tiles and all scaling lists."""
     b = Bits()
-    b.ue(0).ue(0).u(1, 0).u(1, 0).u(3, 0).u(1, 0).u(1, 0).ue(0).ue(0).se(0).u(3, 0).se(0).se(0).u(4, 0).u(2, 2)
+    b.ue(number).ue(0).u(1, 0).u(1, 0).u(3, 0).u(1, 0).u(1, 0).ue(0).ue(0).se(0).u(3, 0).se(0).se(0).u(4, 0).u(2, 2)
     b.ue(255).ue(255).u(1, 0)
     for _ in range(510):
         b.ue(16_000)

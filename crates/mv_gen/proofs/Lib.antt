@@ -1,4 +1,6 @@
+pub mod Clean
 pub mod HeaderBytes
 pub mod Places
 pub mod Steps
 pub mod Valid
+pub mod Written

@@ -9,7 +9,7 @@ use Rattle.mv_gen.specs.Segments.{segment_from, state_behind}
 use Rattle.mv_gen.specs.Units.{access_unit, gen_units, segment, state_before}
 
 -- slice segment i, whose layer and low bits follow from its place
-abbrev placed : ℕ → ℕ → List ℕ
+abbrev pub placed : ℕ → ℕ → List ℕ
 placed number i = segment number i (i % 2) (i / 2 % 8)
 
 of_these : (number i l m a b : ℕ) → l ≡ m → a ≡ b → segment number i l a ≡ segment number i m b
@@ -33,7 +33,7 @@ without : (i : ℕ) → 5 + i - 5 ≡ i
 without i = omega arith
 
 -- the access units from number a on are the slice segments from place 2 a on
-all_are : (number a n : ℕ) → flat_map (access_unit number) (range_with_len a n) ≡ map (placed number) (range_with_len (2 * a) (2 * n))
+pub all_are : (number a n : ℕ) → flat_map (access_unit number) (range_with_len a n) ≡ map (placed number) (range_with_len (2 * a) (2 * n))
 all_are number a zero = refl
 all_are number a (suc n) =
     flat_map-cons (access_unit number) a (range_with_len (a + 1) n)

@@ -5,3 +5,4 @@ pub mod Headers
 pub mod ParameterSets
 pub mod Segments
 pub mod Units
+pub mod Writing
